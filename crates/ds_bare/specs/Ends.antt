@@ -2,6 +2,7 @@
 use Rattle.std.specs.Prelude.{codes, decimal, ℕ, ◌+◌, ◌*◌, ◌/◌, ◌^◌, ◌==◌, if◌then◌else◌, List, [], ◌∷◌, ◌++◌, Option, Some, None, position}
 use Rattle.std.specs.List.{flat_map}
 use Rattle.ds_word.specs.Word.{bits}
+use Rattle.ds_listing.specs.declared.names.RegisterNames.{RegisterNames}
 use Rattle.ds_listing.specs.Texts.{hex2, hex8}
 use Rattle.ds_tlb.specs.declared.entry.Entry.{Entry}
 use Rattle.ds_tlb.specs.Singles.{match_each_other}
@@ -52,13 +53,13 @@ fields_text n w =
     []
 
 -- the line of a register
-abbrev pub register_text : ℕ → ℕ → List ℕ
-register_text n w = name_of n ++ codes " " ++ hex8 w ++ fields_text n w ++ codes "\n"
+abbrev pub register_text : RegisterNames → ℕ → ℕ → List ℕ
+register_text names n w = name_of names n ++ codes " " ++ hex8 w ++ fields_text n w ++ codes "\n"
 
 -- the lines of registers, the first of which has this number
-abbrev pub registers_text : ℕ → List ℕ → List ℕ
-registers_text n [] = []
-registers_text n (w ∷ ws) = register_text n w ++ registers_text (n + 1) ws
+abbrev pub registers_text : RegisterNames → ℕ → List ℕ → List ℕ
+registers_text names n [] = []
+registers_text names n (w ∷ ws) = register_text names n w ++ registers_text names (n + 1) ws
 
 -- Random
 abbrev pub random_text : ℕ → List ℕ
@@ -95,10 +96,10 @@ sent_text line sent = codes "sent " ++ decimal line ++ codes " " ++ flat_map (ch
 unfoldable pub lines_text : List (ℕ × ℕ) → List ℕ
 lines_text sent = sent_text 0 sent ++ sent_text 1 sent ++ sent_text 2 sent ++ sent_text 3 sent
 
--- the processor
-unfoldable pub core_text : CoreState → BusState → List ℕ
-core_text c b = registers_text 0 (seen c.registers) ++ registers_text 32 (others c b) ++ random_text c.random ++ entries_text 0 c.entries ++ matches_text 0 c.entries
+-- the processor, with registers called by these names
+unfoldable pub core_text : RegisterNames → CoreState → BusState → List ℕ
+core_text names c b = registers_text names 0 (seen c.registers) ++ registers_text names 32 (others c b) ++ random_text c.random ++ entries_text 0 c.entries ++ matches_text 0 c.entries
 
 -- the text of the end, after so many instructions
 unfoldable pub end_text : BareView → Ending → ℕ → Machine → List ℕ
-end_text v e k m = headline e k m.core.system ++ core_text m.core m.bus ++ lines_text m.sent ++ looks_text v k m
+end_text v e k m = headline e k m.core.system ++ core_text v.names m.core m.bus ++ lines_text m.sent ++ looks_text v k m

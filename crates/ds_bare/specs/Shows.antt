@@ -54,7 +54,7 @@ is_of (Some Devices) before event c b = is_of_devices before event c b
 
 -- its line, where it is told
 abbrev pub line_shown : BareView → ℕ → Before → Event → CoreState → BusState → List ℕ
-line_shown v k before event c b = if is_of v.only before event c b then line_text k before event c b else []
+line_shown v k before event c b = if is_of v.only before event c b then line_text v.names k before event c b else []
 
 -- where slots begin to match each other, where that is told
 abbrev pub begun_shown : BareView → Before → CoreState → List ℕ

@@ -8,7 +8,9 @@ use Rattle.ds_isa.specs.declared.instr.Kind.TheVariants.{Load, Store}
 use Rattle.ds_isa.specs.Instruction.{instruction_of}
 use Rattle.ds_isa.specs.Registers.{Registers, read}
 use Rattle.ds_isa.specs.Meaning.{address_of}
-use Rattle.ds_listing.specs.Texts.{hex8, text_of}
+use Rattle.ds_listing.specs.declared.names.RegisterNames.{RegisterNames}
+use Rattle.ds_listing.specs.NamedTexts.{register_as, text_as}
+use Rattle.ds_listing.specs.Texts.{hex8}
 use Rattle.ds_tlb.specs.declared.entry.Entry.{Entry}
 use Rattle.ds_cp0.specs.Codes.{number_of}
 use Rattle.ds_cp0.specs.System.{asid_of}
@@ -24,9 +26,9 @@ use Rattle.ds_core.specs.Core.{CoreState}
 use Rattle.ds_bare.specs.declared.before.Before.{Before}
 use Rattle.ds_bare.specs.declared.before.Stored.{Stored}
 
--- a register's name, by its number: 0 to 31 are the general ones
-unfoldable pub name_of : ℕ → List ℕ
-name_of n =
+-- a register's name, by its number: 0 to 31 are the general ones, which have numbers or common names
+unfoldable pub name_of : RegisterNames → ℕ → List ℕ
+name_of names n =
     if n == 32 then codes "HI" else
     if n == 33 then codes "LO" else
     if n == 34 then codes "Index" else
@@ -36,7 +38,7 @@ name_of n =
     if n == 38 then codes "EntryHi" else
     if n == 39 then codes "Status" else
     if n == 40 then codes "Cause" else
-    if n == 41 then codes "EPC" else 36 ∷ decimal n
+    if n == 41 then codes "EPC" else register_as names n
 
 -- the general registers with the old value of one whose load is late
 abbrev pub seen_by : Option Late → List ℕ → List ℕ
@@ -125,9 +127,9 @@ before_word c others (Some w) = record {
 }
 
 -- the instruction, or that there is none in memory
-abbrev pub instruction_text : Option ℕ → List ℕ
-instruction_text None = codes "not fetched"
-instruction_text (Some w) = text_of w
+abbrev pub instruction_text : RegisterNames → Option ℕ → List ℕ
+instruction_text names None = codes "not fetched"
+instruction_text names (Some w) = text_as names w
 
 -- the bits of an entry
 abbrev pub flag_text : List ℕ → Bool → List ℕ
@@ -162,29 +164,29 @@ stored_text b None = []
 stored_text b (Some s) = codes "; " ++ hex8 (s.place / 4 * 4) ++ codes " holds " ++ hex8 (word_stored b s)
 
 -- the register whose load is late, if one is
-abbrev pub late_text : Option Late → List ℕ
-late_text None = []
-late_text (Some l) = codes "; " ++ name_of l.register ++ codes " is late"
+abbrev pub late_text : RegisterNames → Option Late → List ℕ
+late_text names None = []
+late_text names (Some l) = codes "; " ++ name_of names l.register ++ codes " is late"
 
 -- what an instruction that is done wrote elsewhere than into a register
-abbrev pub done_text : Before → CoreState → BusState → List ℕ
-done_text before c b = slot_text c.entries before.slot ++ stored_text b before.stored ++ late_text c.registers.late
+abbrev pub done_text : RegisterNames → Before → CoreState → BusState → List ℕ
+done_text names before c b = slot_text c.entries before.slot ++ stored_text b before.stored ++ late_text names c.registers.late
 
 -- the same by the step's event
-abbrev pub written_text : Before → Event → CoreState → BusState → List ℕ
-written_text before Retired c b = done_text before c b
-written_text before Branched c b = []
-written_text before (Raised code) c b = []
+abbrev pub written_text : RegisterNames → Before → Event → CoreState → BusState → List ℕ
+written_text names before Retired c b = done_text names before c b
+written_text names before Branched c b = []
+written_text names before (Raised code) c b = []
 
 -- a register that may have changed
-abbrev pub change_text : ℕ → ℕ → ℕ → List ℕ
-change_text n old new = if old == new then [] else codes "; " ++ name_of n ++ codes " " ++ hex8 new
+abbrev pub change_text : RegisterNames → ℕ → ℕ → ℕ → List ℕ
+change_text names n old new = if old == new then [] else codes "; " ++ name_of names n ++ codes " " ++ hex8 new
 
 -- the registers that changed, the first of which has this number
-abbrev pub changes_text : ℕ → List ℕ → List ℕ → List ℕ
-changes_text n [] news = []
-changes_text n (old ∷ olds) [] = []
-changes_text n (old ∷ olds) (new ∷ news) = change_text n old new ++ changes_text (n + 1) olds news
+abbrev pub changes_text : RegisterNames → ℕ → List ℕ → List ℕ → List ℕ
+changes_text names n [] news = []
+changes_text names n (old ∷ olds) [] = []
+changes_text names n (old ∷ olds) (new ∷ news) = change_text names n old new ++ changes_text names (n + 1) olds news
 
 -- an exception's name, by the number that Cause shows (Kane and Heinrich, chapter 5)
 abbrev pub code_name : ℕ → List ℕ
@@ -218,14 +220,14 @@ event_text Branched pc = []
 event_text (Raised code) pc = raised_text (number_of code) pc
 
 -- what all registers have that changed
-unfoldable pub registers_text : Before → CoreState → BusState → List ℕ
-registers_text before c b = changes_text 0 before.registers (seen c.registers) ++ changes_text 32 before.others (others c b)
+unfoldable pub registers_text : RegisterNames → Before → CoreState → BusState → List ℕ
+registers_text names before c b = changes_text names 0 before.registers (seen c.registers) ++ changes_text names 32 before.others (others c b)
 
 -- a step's number, its address and its instruction
-unfoldable pub front_text : ℕ → ℕ → Option ℕ → List ℕ
-front_text k pc word = decimal k ++ codes " " ++ hex8 pc ++ codes " " ++ instruction_text word
+unfoldable pub front_text : RegisterNames → ℕ → ℕ → Option ℕ → List ℕ
+front_text names k pc word = decimal k ++ codes " " ++ hex8 pc ++ codes " " ++ instruction_text names word
 
--- the line of the step with this number
-unfoldable pub line_text : ℕ → Before → Event → CoreState → BusState → List ℕ
-line_text k before event c b =
-    front_text k before.pc before.word ++ written_text before event c b ++ registers_text before c b ++ event_text event c.pc ++ codes "\n"
+-- the line of the step with this number, with registers called by these names
+unfoldable pub line_text : RegisterNames → ℕ → Before → Event → CoreState → BusState → List ℕ
+line_text names k before event c b =
+    front_text names k before.pc before.word ++ written_text names before event c b ++ registers_text names before c b ++ event_text event c.pc ++ codes "\n"

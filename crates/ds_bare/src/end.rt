@@ -15,6 +15,7 @@ use crate::registers::{others, seen};
 use ds_bare_view::BareView;
 use ds_cp0::{Cp0, register};
 use ds_dev::Bus;
+use ds_listing::RegisterNames;
 use ds_tlb::{Entry, Lookaside};
 use std::alloc::{AllocError, Global};
 
@@ -32,7 +33,7 @@ pub(crate) fn push_end<'a>(
         (string_bytes text.new ≡ string_bytes text.old ++ end_text view.now ending done machine.now) }
 {
     push_headline(text, ending, done, &machine.core.cp0)?;
-    push_core(alloc, text, &machine.core, &machine.bus)?;
+    push_core(alloc, text, view.names, &machine.core, &machine.bus)?;
     push_lines(text, &machine.sent)?;
     push_looks(text, view, done, machine)
 }
@@ -92,19 +93,20 @@ fn push_cause(text: &mut String, cp0: &Cp0) -> Result<(), AllocError>
     text.push_str("\n")
 }
 
-/// Adds the processor.
+/// Adds the processor, with registers called by these names.
 #[tactic(auto, unfolding(crate::specs::Ends::core_text))]
 fn push_core(
     alloc: Global,
     text: &mut String,
+    names: RegisterNames,
     core: &Processor,
     bus: &Bus,
 ) -> Result<(), AllocError>
     ensures { OnOk result
-        (string_bytes text.new ≡ string_bytes text.old ++ core_text core.now bus.now) }
+        (string_bytes text.new ≡ string_bytes text.old ++ core_text names core.now bus.now) }
 {
-    push_registers(text, 0, &seen(core))?;
-    push_registers(text, 32, &others(core, bus))?;
+    push_registers(text, names, 0, &seen(core))?;
+    push_registers(text, names, 32, &others(core, bus))?;
     push_random(text, core.tlb.random())?;
     let entries = entries_of(alloc, core)?;
     push_entries(text, &entries)?;
@@ -120,26 +122,37 @@ fn push_random(text: &mut String, random: usize) -> Result<(), AllocError>
 }
 
 /// Adds the lines of registers, of which the first has this number.
-fn push_registers(text: &mut String, first: u32, values: &[u32]) -> Result<(), AllocError>
+fn push_registers(
+    text: &mut String,
+    names: RegisterNames,
+    first: u32,
+    values: &[u32],
+) -> Result<(), AllocError>
     requires { first + length values.now ≤ 64 }
     ensures { OnOk result
-        (string_bytes text.new ≡ string_bytes text.old ++ registers_text first values.now) }
+        (string_bytes text.new ≡ string_bytes text.old ++ registers_text names first values.now) }
 {
     let mut number = first;
     let mut left = values;
     while let [value, rest @ ..] = left {
-        push_register(text, number, *value)?;
+        push_register(text, names, number, *value)?;
         number += 1;
         left = rest;
     }
     Ok(())
 }
 
-fn push_register(text: &mut String, number: u32, value: u32) -> Result<(), AllocError>
+fn push_register(
+    text: &mut String,
+    names: RegisterNames,
+    number: u32,
+    value: u32,
+) -> Result<(), AllocError>
+    requires { number < 64 }
     ensures { OnOk result
-        (string_bytes text.new ≡ string_bytes text.old ++ register_text number value) }
+        (string_bytes text.new ≡ string_bytes text.old ++ register_text names number value) }
 {
-    push_name(text, number)?;
+    push_name(text, number, names)?;
     text.push_str(" ")?;
     push_hex(text, value)?;
     push_fields(text, number, value)?;

@@ -1,15 +1,23 @@
 //! Names of registers and exceptions.
-ghost use Rattle.std.specs.Prelude.{◌≡◌, ◌++◌, OnOk};
+ghost use Rattle.std.specs.Prelude.{◌≡◌, ◌<◌, ◌++◌, OnOk};
 ghost use Rattle.std.specs.String.{string_bytes};
 ghost use Rattle.ds_bare.specs.Steps.{code_name, code_text, name_of};
 
 use crate::digits::push_decimal;
+use ds_listing::{RegisterNames, push_register};
 use std::alloc::AllocError;
 
-/// Adds the name of a register: 0 to 31 are the general ones, then HI, LO and the coprocessor's.
+/// Adds the name of a register: 0 to 31 are the general ones, by their numbers or their common names,
+/// then HI, LO and the coprocessor's.
 #[tactic(auto, unfolding(crate::specs::Steps::name_of))]
-pub(crate) fn push_name(text: &mut String, number: u32) -> Result<(), AllocError>
-    ensures { OnOk result (string_bytes text.new ≡ string_bytes text.old ++ name_of number) }
+pub(crate) fn push_name(
+    text: &mut String,
+    number: u32,
+    names: RegisterNames,
+) -> Result<(), AllocError>
+    requires { number < 256 }
+    ensures { OnOk result
+        (string_bytes text.new ≡ string_bytes text.old ++ name_of names number) }
 {
     match number {
         32 => text.push_str("HI"),
@@ -22,10 +30,7 @@ pub(crate) fn push_name(text: &mut String, number: u32) -> Result<(), AllocError
         39 => text.push_str("Status"),
         40 => text.push_str("Cause"),
         41 => text.push_str("EPC"),
-        _ => {
-            text.push('$')?;
-            push_decimal(text, u64::from(number))
-        }
+        _ => push_register(text, number as u8, names),
     }
 }
 

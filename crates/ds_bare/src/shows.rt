@@ -98,7 +98,7 @@ fn push_line_shown(
         ++ line_shown view.now number before.now event core.now bus.now) }
 {
     if is_of(view.only, before, event, core, bus) {
-        push_line(text, number, before, event, core, bus)
+        push_line(text, view.names, number, before, event, core, bus)
     } else {
         Ok(())
     }

@@ -1,5 +1,5 @@
 //! The line of a step.
-ghost use Rattle.std.specs.Prelude.{◌≡◌, ◌≤◌, ◌+◌, ◌++◌, OnOk, length};
+ghost use Rattle.std.specs.Prelude.{◌≡◌, ◌≤◌, ◌<◌, ◌+◌, ◌++◌, OnOk, length};
 ghost use Rattle.std.specs.String.{string_bytes};
 ghost use Rattle.ds_bare.specs.Steps.{change_text, changes_text, done_text, event_text, front_text, instruction_text, late_text, line_text, raised_text, registers_text, slot_text, stored_text, word_stored, written_text};
 
@@ -12,15 +12,17 @@ use crate::registers::{others, seen};
 use ds_core::Event;
 use ds_dev::Bus;
 use ds_isa::Late;
-use ds_listing::push_word;
+use ds_listing::{RegisterNames, push_word_as};
 use ds_mem::SIZE;
 use ds_tlb::Lookaside;
 use std::alloc::AllocError;
 
-/// Adds the line of the step with this number, by what was before it and what it left.
+/// Adds the line of the step with this number, by what was before it and what it left, with registers
+/// called by these names.
 #[tactic(auto, unfolding(crate::specs::Steps::line_text))]
 pub(crate) fn push_line(
     text: &mut String,
+    names: RegisterNames,
     number: u64,
     before: &Before,
     event: Event,
@@ -28,35 +30,45 @@ pub(crate) fn push_line(
     bus: &Bus,
 ) -> Result<(), AllocError>
     ensures { OnOk result (string_bytes text.new ≡ string_bytes text.old
-        ++ line_text number before.now event core.now bus.now) }
+        ++ line_text names number before.now event core.now bus.now) }
 {
-    push_front(text, number, before.pc, before.word)?;
-    push_written(text, before, event, core, bus)?;
-    push_registers(text, before, core, bus)?;
+    push_front(text, names, number, before.pc, before.word)?;
+    push_written(text, names, before, event, core, bus)?;
+    push_registers(text, names, before, core, bus)?;
     push_event(text, event, core.pc)?;
     text.push_str("\n")
 }
 
 /// Adds a step's number, its address and its instruction.
 #[tactic(auto, unfolding(crate::specs::Steps::front_text))]
-fn push_front(text: &mut String, number: u64, pc: u32, word: Option<u32>) -> Result<(), AllocError>
+fn push_front(
+    text: &mut String,
+    names: RegisterNames,
+    number: u64,
+    pc: u32,
+    word: Option<u32>,
+) -> Result<(), AllocError>
     ensures { OnOk result
-        (string_bytes text.new ≡ string_bytes text.old ++ front_text number pc word) }
+        (string_bytes text.new ≡ string_bytes text.old ++ front_text names number pc word) }
 {
     push_decimal(text, number)?;
     text.push_str(" ")?;
     push_hex(text, pc)?;
     text.push_str(" ")?;
-    push_instruction(text, word)
+    push_instruction(text, names, word)
 }
 
 /// Adds the instruction, or that there is none in memory.
-fn push_instruction(text: &mut String, word: Option<u32>) -> Result<(), AllocError>
+fn push_instruction(
+    text: &mut String,
+    names: RegisterNames,
+    word: Option<u32>,
+) -> Result<(), AllocError>
     ensures { OnOk result
-        (string_bytes text.new ≡ string_bytes text.old ++ instruction_text word) }
+        (string_bytes text.new ≡ string_bytes text.old ++ instruction_text names word) }
 {
     match word {
-        Some(word) => push_word(text, word),
+        Some(word) => push_word_as(text, word, names),
         None => text.push_str("not fetched"),
     }
 }
@@ -64,32 +76,34 @@ fn push_instruction(text: &mut String, word: Option<u32>) -> Result<(), AllocErr
 /// Adds what the instruction wrote elsewhere than into a register, if it is done.
 fn push_written(
     text: &mut String,
+    names: RegisterNames,
     before: &Before,
     event: Event,
     core: &Processor,
     bus: &Bus,
 ) -> Result<(), AllocError>
     ensures { OnOk result (string_bytes text.new ≡ string_bytes text.old
-        ++ written_text before.now event core.now bus.now) }
+        ++ written_text names before.now event core.now bus.now) }
 {
     match event {
-        Event::Retired => push_done(text, before, core, bus),
+        Event::Retired => push_done(text, names, before, core, bus),
         _ => Ok(()),
     }
 }
 
 fn push_done(
     text: &mut String,
+    names: RegisterNames,
     before: &Before,
     core: &Processor,
     bus: &Bus,
 ) -> Result<(), AllocError>
     ensures { OnOk result (string_bytes text.new
-        ≡ string_bytes text.old ++ done_text before.now core.now bus.now) }
+        ≡ string_bytes text.old ++ done_text names before.now core.now bus.now) }
 {
     push_slot_written(text, core, before.slot)?;
     push_stored(text, bus, before.stored)?;
-    push_late(text, core.late)
+    push_late(text, names, core.late)
 }
 
 /// Adds the slot of the buffer that was written, if one was.
@@ -139,13 +153,13 @@ fn push_stored(text: &mut String, bus: &Bus, stored: Option<Stored>) -> Result<(
 }
 
 /// Adds the register whose load is late, if one is.
-fn push_late(text: &mut String, late: Option<Late>) -> Result<(), AllocError>
-    ensures { OnOk result (string_bytes text.new ≡ string_bytes text.old ++ late_text late) }
+fn push_late(text: &mut String, names: RegisterNames, late: Option<Late>) -> Result<(), AllocError>
+    ensures { OnOk result (string_bytes text.new ≡ string_bytes text.old ++ late_text names late) }
 {
     match late {
         Some(late) => {
             text.push_str("; ")?;
-            push_name(text, u32::from(late.register))?;
+            push_name(text, u32::from(late.register), names)?;
             text.push_str(" is late")
         }
         None => Ok(()),
@@ -156,27 +170,29 @@ fn push_late(text: &mut String, late: Option<Late>) -> Result<(), AllocError>
 #[tactic(auto, unfolding(crate::specs::Steps::registers_text))]
 fn push_registers(
     text: &mut String,
+    names: RegisterNames,
     before: &Before,
     core: &Processor,
     bus: &Bus,
 ) -> Result<(), AllocError>
     ensures { OnOk result (string_bytes text.new
-        ≡ string_bytes text.old ++ registers_text before.now core.now bus.now) }
+        ≡ string_bytes text.old ++ registers_text names before.now core.now bus.now) }
 {
-    push_changes(text, 0, &before.registers, &seen(core))?;
-    push_changes(text, 32, &before.others, &others(core, bus))
+    push_changes(text, names, 0, &before.registers, &seen(core))?;
+    push_changes(text, names, 32, &before.others, &others(core, bus))
 }
 
 /// Adds the registers that changed, of which the first has this number.
 fn push_changes(
     text: &mut String,
+    names: RegisterNames,
     first: u32,
     before: &[u32],
     after: &[u32],
 ) -> Result<(), AllocError>
     requires { first + length before.now ≤ 64 }
     ensures { OnOk result (string_bytes text.new
-        ≡ string_bytes text.old ++ changes_text first before.now after.now) }
+        ≡ string_bytes text.old ++ changes_text names first before.now after.now) }
 {
     let mut number = first;
     let mut olds = before;
@@ -184,7 +200,7 @@ fn push_changes(
     while let [old, more_olds @ ..] = olds {
         match news {
             [new, more_news @ ..] => {
-                push_change(text, number, *old, *new)?;
+                push_change(text, names, number, *old, *new)?;
                 news = more_news;
             }
             [] => return Ok(()),
@@ -196,15 +212,22 @@ fn push_changes(
 }
 
 /// Adds a register where it changed.
-fn push_change(text: &mut String, number: u32, old: u32, new: u32) -> Result<(), AllocError>
+fn push_change(
+    text: &mut String,
+    names: RegisterNames,
+    number: u32,
+    old: u32,
+    new: u32,
+) -> Result<(), AllocError>
+    requires { number < 64 }
     ensures { OnOk result
-        (string_bytes text.new ≡ string_bytes text.old ++ change_text number old new) }
+        (string_bytes text.new ≡ string_bytes text.old ++ change_text names number old new) }
 {
     if old == new {
         return Ok(());
     }
     text.push_str("; ")?;
-    push_name(text, number)?;
+    push_name(text, number, names)?;
     text.push_str(" ")?;
     push_hex(text, new)
 }

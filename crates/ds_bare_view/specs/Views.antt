@@ -4,6 +4,7 @@ use Rattle.ds_bare_view.specs.declared.view.BareOnly.{BareOnly}
 use Rattle.ds_bare_view.specs.declared.view.BareOnly.TheVariants.{End}
 use Rattle.ds_bare_view.specs.declared.view.BareView.{BareView}
 use Rattle.ds_bare_view.specs.Spans.{spans_in}
+use Rattle.ds_listing.specs.declared.names.RegisterNames.TheVariants.{Numbers}
 
 -- whether the end alone is told
 abbrev pub is_end : Option BareOnly → Bool
@@ -26,3 +27,4 @@ pub record IsWhole (v : BareView) : Type 0 where
   pub matches : v.matches ≡ false
   pub counts : v.counts ≡ false
   pub memory : spans_in v.memory ≡ []
+  pub names : v.names ≡ Numbers

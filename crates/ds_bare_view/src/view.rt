@@ -3,6 +3,7 @@ ghost use Rattle.std.specs.Prelude.{◌≡◌};
 ghost use Rattle.ds_bare_view.specs.Views.{IsWhole, is_before, reaches};
 
 use crate::spans::Spans;
+use ds_listing::RegisterNames;
 
 /// The one kind of instruction that is told.
 #[derive(Clone, Copy, Debug, PartialEq, Eq)]
@@ -34,6 +35,8 @@ pub struct BareView {
     pub counts: bool,
     /// The words of memory that the end tells.
     pub memory: Spans,
+    /// How registers are called.
+    pub names: RegisterNames,
 }
 
 fn is_before(to: Option<u64>, number: u64) -> bool
@@ -58,6 +61,7 @@ impl BareView {
             matches: false,
             counts: false,
             memory: Spans::none(),
+            names: RegisterNames::Numbers,
         }
     }
 

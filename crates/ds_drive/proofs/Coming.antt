@@ -1,5 +1,5 @@
 -- What the program says by what a run came to.
-use Rattle.std.proofs.Common.{◌≡◌, ◌∙◌, ◌⊎◌, inl, inr, ℕ, ◌≤◌, Bool, false, List, [], ◌++◌, append-nil, arith, refl, sym, ap, subst}
+use Rattle.std.proofs.Common.{◌≡◌, ◌∙◌, ◌⊎◌, inl, inr, ℕ, ◌≤◌, Bool, false, List, [], ◌++◌, arith, refl, sym, ap}
 use Rattle.std.specs.Prelude.{Option, Some, None}
 use Rattle.clap.specs.Words.{Text}
 use Rattle.ds_log.proofs.Sends.{appends_both}
@@ -133,11 +133,11 @@ module _ (words : List Text) (holds : List ℕ → List ℕ → Type 0) (o : Out
   module _ (request : TraceRequest) (asks : AsksForTrace words request) (r : HasTracedFiles holds request o old new) where
     -- a trace is never left
     pub trace_never_much : came_status o.came ≡ 3 → ⊥
-    trace_never_much three = never_much _ (sym r.so.traces.2.followed.came ∙ much_by o.came three)
+    trace_never_much three = never_much _ (sym r.so.so.traces.2.followed.came ∙ much_by o.came three)
 
     pub trace_untold : request.extras.summary ≡ false → came_status o.came ≡ 0 → o.told.items ≡ []
     trace_untold none zero =
-        let e = r.so.traces.2 in
+        let e = r.so.so.traces.2 in
         e.followed.told ∙ (ap (λ (s : List ℕ). s ++ end_told Whole e.station (unmet request.extras e.by.last)) (no_summary request.extras.summary _ none) ∙ nothing_unmet (unmet request.extras e.by.last) e.station (sym (done_by o.came zero) ∙ e.followed.came))
 
     module _ (err : Listener) (told : Tells err o.told.items) where

@@ -1,13 +1,11 @@
 -- Why there is no session over a run of files, and what it leaves; and how one ended.
-use Rattle.std.proofs.Common.{◌≡◌, ◌∙◌, ◌⊎◌, inl, inr, ℕ, List, [], ◌++◌, append-nil, refl, sym, ap, subst}
-use Rattle.std.specs.Prelude.{Option, Some, Result, codes}
+use Rattle.std.proofs.Common.{◌≡◌, ◌⊎◌, inl, inr, ℕ, List, [], append-nil, refl, subst}
+use Rattle.std.specs.Prelude.{Option, codes}
 use Rattle.std.specs.Io.KnownBytes.{Keeps}
 use Rattle.clap.specs.Words.{Text}
-use Rattle.ds_log.specs.Sent.{AppendsPart}
 use Rattle.ds_log.proofs.Sends.{part_before}
 use Rattle.ds_policy.specs.Value.{PolicyValue}
-use Rattle.ds_pagemap.specs.Machine.{State}
-use Rattle.ds_pagemap.specs.Inputs.{Refusal, Sources, inputs_under}
+use Rattle.ds_pagemap.specs.Inputs.{Sources}
 use Rattle.ds_station.specs.Faults.{number_of}
 use Rattle.ds_station.specs.Headline.{Refuses}
 use Rattle.ds_station.specs.declared.fault.Fault.{Fault}
@@ -22,9 +20,9 @@ use Rattle.ds_words.specs.declared.words.Request.{Request}
 use Rattle.ds_words.specs.Words.{AsksForDebug}
 use Rattle.ds_drive.specs.declared.failure.Failure.{Failure}
 use Rattle.ds_drive.specs.declared.failure.Failure.TheVariants as failure
-use Rattle.ds_drive.specs.Debugged.{CutsDebug, DebugStopsBy, HasDebugged, IsCutBy, IsUnheard, OfRunInputs}
+use Rattle.ds_drive.specs.Debugged.{CutsDebug, DebugStopsBy, HasDebugged, OfRunInputs}
 use Rattle.ds_drive.specs.Done.{IsCutShort, IsDone, IsStopped, Stream, stream}
-use Rattle.ds_drive.specs.Failures.{FilesStop, HoldsInputs, IsUnreadRun, OfHeld, failure_number}
+use Rattle.ds_drive.specs.Failures.{HoldsInputs, IsUnreadRun, failure_number}
 use Rattle.ds_drive.specs.Listening.{Listener, Tells}
 use Rattle.ds_drive.specs.Statuses.{fault_status}
 use Rattle.ds_drive.specs.Told.{failure_line}
@@ -99,12 +97,12 @@ module _ (words : List Text) (holds : List ℕ → List ℕ → Type 0) (request
   pub debug_cut : (lacks : List ℕ → Type 0) (f : Failure) → DebugStopsBy f holds lacks request old new → IsCutShort words holds old new
   debug_cut lacks f stops = elim (cut_leaves lacks f stops) [
     | inl kept ↦ inl kept
-    | inr cut ↦ inr (inr (inr (inr (inr (inr (inr (request, asks, cut)))))))
+    | inr cut ↦ inr (inr (inr (inr (inr (inr (inr (inl (request, asks, cut))))))))
   ]
 
   -- or a read failed
   pub unheard_cut : (unread left : Option (List ℕ)) → HasDebugged Unread holds request (pipes unread left old new) → IsCutShort words holds old new
-  unheard_cut unread left d = inr (inr (inr (inr (inr (inr (inr (
+  unheard_cut unread left d = inr (inr (inr (inr (inr (inr (inr (inl (
     request,
     asks,
     (
@@ -112,21 +110,21 @@ module _ (words : List Text) (holds : List ℕ → List ℕ → Type 0) (request
       left,
       record { policy = d.policy; sources = d.sources; input = d.input; read = d.read; so = whole_session Unread _ request.most_time (pipes unread left old new) d.so },
     ),
-  )))))))
+  ))))))))
 
   pub debug_stopped : (lacks : List ℕ → Type 0) (f : Failure) (status : ℕ) (err : Listener) → fault_status (failure_number f) ≡ status → DebugStopsBy f holds lacks request old new → Tells err (failure_line f)
       → IsStopped status words holds lacks (stream old new) err
   debug_stopped lacks f status err has stops told =
-      inr (inr (inr (inr (inr (inr (request, asks, inl (record { failure = f; has = has; so = stops; told = told })))))))
+      inr (inr (inr (inr (inr (inr (inl (request, asks, inl (record { failure = f; has = has; so = stops; told = told }))))))))
 
   pub unheard_stopped : (lacks : List ℕ → Type 0) (unread left : Option (List ℕ)) (status : ℕ) (err : Listener) → status ≡ 3 → HasDebugged Unread holds request (pipes unread left old new)
       → Tells err (codes "dsmon: standard input could not be read\n") → IsStopped status words holds lacks (stream old new) err
   unheard_stopped lacks unread left status err has so told =
-      inr (inr (inr (inr (inr (inr (request, asks, inr (record { has = has; unread = unread; left = left; so = so; told = told })))))))
+      inr (inr (inr (inr (inr (inr (inl (request, asks, inr (record { has = has; unread = unread; left = left; so = so; told = told }))))))))
 
   -- or it was held to its end
   pub debug_done : (input : Stream) (err : Listener) → HasDebugged Over holds request (pipes input.old input.new old new) → IsDone words holds input (stream old new) err
-  debug_done input err d = inr (inr (inr (inr (inr (inr (request, asks, d))))))
+  debug_done input err d = inr (inr (inr (inr (inr (inr (inl (request, asks, d)))))))
 
 -- a fault of a run that has begun has status 3
 late_three : (f : Fault) → IsLate f → fault_status (number_of f) ≡ 2 → ⊥

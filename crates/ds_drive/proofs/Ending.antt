@@ -1,7 +1,7 @@
 -- Runs that ended, or were left, and what follows.
-use Rattle.std.proofs.Common.{◌≡◌, ◌∙◌, ◌⊎◌, inl, inr, ℕ, Bool, true, false, ◌||◌, List, [], ◌++◌, refl, sym, ap, subst}
-use Rattle.std.specs.Prelude.{Option, Some, None, Result, Ok, is_some}
-use Rattle.std.specs.Io.KnownBytes.{Appends, Keeps}
+use Rattle.std.proofs.Common.{◌≡◌, ◌∙◌, ◌⊎◌, inl, inr, ℕ, Bool, true, false, ◌||◌, List, [], refl, sym, ap, subst}
+use Rattle.std.specs.Prelude.{Option, Some, None, Result, is_some}
+use Rattle.std.specs.Io.KnownBytes.{Appends}
 use Rattle.ds_log.specs.Sent.{AppendsPart}
 use Rattle.ds_log.proofs.Sends.{appends_none, part_before, part_behind}
 use Rattle.ds_pagemap.specs.Inputs.{Refusal}
@@ -9,7 +9,7 @@ use Rattle.ds_pagemap.specs.Machine.{State}
 use Rattle.ds_pagemap.specs.Text.{text_of}
 use Rattle.ds_refinement.specs.Held.{Held}
 use Rattle.ds_refinement.specs.Stands.{Stands}
-use Rattle.ds_station.specs.Headline.{Along, Begins, EndsBy, Followed, Loaded, WritesPart, WritesReally, held_text}
+use Rattle.ds_station.specs.Headline.{Along, Begins, EndsBy, Followed, Loaded, WritesPart, WritesReally}
 use Rattle.ds_station.specs.Outcome.{WritesBy}
 use Rattle.ds_station.specs.Pieces.{ComesReally, WritesTooMuch, WritesUpTo, WritesWithin}
 use Rattle.ds_station.specs.declared.fault.Fault.{Fault}
@@ -21,12 +21,11 @@ use Rattle.ds_trace.specs.Accounts.{account_text}
 use Rattle.ds_trace.specs.Handed.{IsLate}
 use Rattle.ds_trace.specs.Summed.{WritesSummed}
 use Rattle.ds_words.specs.Windows.{windows_in}
-use Rattle.ds_words.specs.declared.windows.Window.{Window}
 use Rattle.ds_words.specs.declared.words.Extras.{Extras}
 use Rattle.ds_words.specs.declared.words.RunRequest.{RunRequest}
 use Rattle.ds_drive.specs.Failures.{EndsThenBy, WritesPartThen, asks_more}
-use Rattle.ds_drive.specs.Outcomes.{IsFollowed, has_window, is_more, left, wants_more, where_asked}
-use Rattle.ds_drive.specs.Ran.{EndsThen, HasEnded, HasLeft, IsEnded, IsLeft, IsWithin, LeavesThen, run_summary, told_by, writing}
+use Rattle.ds_drive.specs.Outcomes.{IsFollowed, has_window, left, wants_more, where_asked}
+use Rattle.ds_drive.specs.Ran.{EndsThen, IsEnded, IsLeft, IsWithin, run_summary, told_by, writing}
 use Rattle.ds_drive.specs.Windows.{windows_text}
 use Rattle.ds_drive.specs.declared.outcome.Outcome.{Outcome}
 

@@ -1,6 +1,6 @@
 -- What is written after the text of a run, and what it came to.
 use Rattle.std.proofs.Common.{◌≡◌, ◌∙◌, ℕ, Bool, true, false, ◌||◌, List, [], ◌∷◌, ◌++◌, length, append-nil, refl, sym, ap, subst}
-use Rattle.std.specs.Prelude.{Option, Some, None}
+use Rattle.std.specs.Prelude.{Option}
 use Rattle.std.specs.Io.KnownBytes.{Appends}
 use Rattle.std.proofs.lemmas.Bool.{true≢false}
 use Rattle.ds_log.specs.Sent.{AppendsPart}
@@ -18,7 +18,7 @@ use Rattle.ds_station.proofs.Standings.{as_many, unended_stands}
 use Rattle.ds_words.specs.Windows.{windows_in}
 use Rattle.ds_words.specs.declared.windows.Window.{Window}
 use Rattle.ds_words.specs.declared.words.Extras.{Extras}
-use Rattle.ds_drive.specs.Outcomes.{IsFollowed, came_of, end_told, has_window, is_more, left, wants_more, where_wanted}
+use Rattle.ds_drive.specs.Outcomes.{IsFollowed, came_of, end_told, has_window, is_more, left, where_wanted}
 use Rattle.ds_drive.specs.Windows.{lines_in, windows_text}
 use Rattle.ds_drive.specs.declared.outcome.Came.TheVariants as came
 use Rattle.ds_drive.specs.declared.outcome.Outcome.{Outcome}

@@ -1,13 +1,13 @@
 -- What is told to a place that takes bytes.
-use Rattle.std.proofs.Common.{◌≡◌, ℕ, Bool, true, false, List, [], ◌++◌, append-nil, append_assoc, refl, subst, sym}
-use Rattle.std.specs.Prelude.{Option, Some, None, Result, Ok, Err, OnOk, OnErr, is_err}
+use Rattle.std.proofs.Common.{◌≡◌, ℕ, true, false, List, [], ◌++◌, append-nil, refl, subst, sym}
+use Rattle.std.specs.Prelude.{Option, Result, Ok, Err, OnOk, OnErr, is_err}
 use Rattle.std.specs.Io.KnownBytes.{Appends}
 use Rattle.ds_log.specs.Sent.{Answers, AppendsPart, IsAskedOnce}
 use Rattle.ds_log.proofs.Sends.{appends_both, appends_none, asked_both, part_behind, part_before}
 use Rattle.ds_bare.proofs.CutBetween.{asked_none}
 use Rattle.ds_drive.specs.declared.faults.Untold.{Untold}
 use Rattle.ds_drive.specs.declared.faults.Untold.TheVariants.{Unwritten, NoMemory}
-use Rattle.ds_drive.specs.Listening.{Listener, Tells, TellsSome, is_unwritten, listener}
+use Rattle.ds_drive.specs.Listening.{Tells, TellsSome, is_unwritten, listener}
 
 -- all of a text is a front of it
 pub whole_part : (old new : Option (List ℕ)) (text : List ℕ) → Appends old new text → AppendsPart old new text

@@ -7,7 +7,7 @@ use Rattle.ds_policy.specs.PolicyParts.{sources_of}
 use Rattle.ds_policy.specs.Value.{PolicyValue}
 use Rattle.ds_policy.specs.Refusal.{PolicyRefusal}
 use Rattle.ds_pagemap.specs.Machine.{State}
-use Rattle.ds_pagemap.specs.Inputs.{Refusal, Sources, inputs, inputs_under, inputs_under_by}
+use Rattle.ds_pagemap.specs.Inputs.{Refusal, Sources, inputs, inputs_under}
 use Rattle.ds_station.proofs.Preparing.{under_policy, under_policy_by}
 use Rattle.ds_station.proofs.Alone.{each_alone_if}
 use Rattle.ds_station.proofs.Guarded.{files_guarded_if}

@@ -4,6 +4,7 @@ pub mod Coming
 pub mod Cuts
 pub mod Debugging
 pub mod Ending
+pub mod ExplainLemmas
 pub mod Faulty
 pub mod Following
 pub mod Heard

@@ -3,9 +3,10 @@ use Rattle.std.proofs.Common.{◌≡◌, inl, inr, ℕ, Bool, List, [], ◌∷�
 use Rattle.std.specs.Prelude.{Option, Some, None}
 use Rattle.clap.specs.Words.{Text}
 use Rattle.ds_station.specs.declared.fault.Fault.TheVariants as fault
-use Rattle.ds_words.specs.Words.{AsksForBare, AsksForCheck, AsksForDebug, AsksForList, AsksForRun, AsksForTrace}
+use Rattle.ds_words.specs.Words.{AsksForBare, AsksForCheck, AsksForDebug, AsksForExplain, AsksForList, AsksForRun, AsksForTrace}
 use Rattle.ds_words.specs.declared.words.BareRequest.{BareRequest}
 use Rattle.ds_words.specs.declared.words.CheckRequest.{CheckRequest}
+use Rattle.ds_words.specs.declared.words.ExplainRequest.{ExplainRequest}
 use Rattle.ds_words.specs.declared.words.ListRequest.{ListRequest}
 use Rattle.ds_words.specs.declared.words.Request.{Request}
 use Rattle.ds_words.specs.declared.words.RunRequest.{RunRequest}
@@ -91,8 +92,16 @@ module _ (status : ℕ) (words : List Text) (holds : List ℕ → List ℕ → T
 
   -- those of a session with a debugger
   pub debug_reads : (request : Request) → AsksForDebug words request → ReadsRun holds request.policy.now (request.input.now ∷ []) old new → ReadsFor status words holds old new
-  debug_reads request asks r = inr (inr (inr (inr (inr (inr (request, asks, run_read_until holds request.policy.now (request.input.now ∷ []) (HasStatus status) old new r tt))))))
+  debug_reads request asks r = inr (inr (inr (inr (inr (inr (inl (request, asks, run_read_until holds request.policy.now (request.input.now ∷ []) (HasStatus status) old new r tt)))))))
 
   pub debug_reads_until : (request : Request) (f : Failure) → status ≡ fault_status (failure_number f) → AsksForDebug words request → ReadsRunUntil (TellsOfRun request.inside f) holds request.policy.now (request.input.now ∷ []) old new → ReadsFor status words holds old new
   debug_reads_until request f has asks r =
-      inr (inr (inr (inr (inr (inr (request, asks, run_until_so (TellsOfRun request.inside f) (HasStatus status) (λ u t. has_status_run request.inside f status u has t) holds request.policy.now (request.input.now ∷ []) old new r))))))
+      inr (inr (inr (inr (inr (inr (inl (request, asks, run_until_so (TellsOfRun request.inside f) (HasStatus status) (λ u t. has_status_run request.inside f status u has t) holds request.policy.now (request.input.now ∷ []) old new r)))))))
+
+  -- those of an explained log
+  pub explain_reads : (request : ExplainRequest) → AsksForExplain words request → ReadsRun holds request.run.policy.now (request.run.input.now ∷ []) old new → ReadsFor status words holds old new
+  explain_reads request asks r = inr (inr (inr (inr (inr (inr (inr (request, asks, run_read_until holds request.run.policy.now (request.run.input.now ∷ []) (HasStatus status) old new r tt)))))))
+
+  pub explain_reads_until : (request : ExplainRequest) (f : Failure) → status ≡ fault_status (failure_number f) → AsksForExplain words request → ReadsRunUntil (TellsOfRun request.run.inside f) holds request.run.policy.now (request.run.input.now ∷ []) old new → ReadsFor status words holds old new
+  explain_reads_until request f has asks r =
+      inr (inr (inr (inr (inr (inr (inr (request, asks, run_until_so (TellsOfRun request.run.inside f) (HasStatus status) (λ u t. has_status_run request.run.inside f status u has t) holds request.run.policy.now (request.run.input.now ∷ []) old new r)))))))

@@ -1,8 +1,11 @@
 -- Why there is no trace of a run of files, and what it leaves; and what a trace came to.
 use Rattle.std.proofs.Common.{◌≡◌, ◌∙◌, ◌⊎◌, inl, inr, ℕ, Bool, true, false, List, [], ◌++◌, append_assoc, length, refl, sym, ap, subst}
 use Rattle.std.specs.Prelude.{Option, Some, Result}
+use Rattle.std.specs.Borrow.{Bor}
 use Rattle.std.specs.Io.KnownBytes.{Keeps}
 use Rattle.clap.specs.Words.{Text}
+use Rattle.ds_listing.specs.Pages.{plain_pages}
+use Rattle.ds_listing.specs.declared.pages.PageLines.{PageLines}
 use Rattle.ds_log.specs.Sent.{AppendsPart}
 use Rattle.ds_log.proofs.Sends.{part_before, part_behind}
 use Rattle.ds_policy.specs.Value.{PolicyValue}
@@ -19,7 +22,8 @@ use Rattle.ds_station.proofs.Headlines.{keeps_same}
 use Rattle.ds_trace.specs.Handed.{IsLate}
 use Rattle.ds_trace.specs.Summed.{summed_text}
 use Rattle.ds_trace.specs.Traces.{TraceEndsBy, WritesTraceBy, WritesTracePart, WritesTraceReally, counts_along, told_to}
-use Rattle.ds_trace.proofs.Inputs.{refused_untold, short_part}
+use Rattle.ds_trace.proofs.Inputs.{short_part}
+use Rattle.ds_view.specs.declared.view.View.{View}
 use Rattle.ds_words.specs.Windows.{windows_in}
 use Rattle.ds_words.specs.declared.words.TraceRequest.{TraceRequest}
 use Rattle.ds_words.specs.Words.{AsksForTrace}
@@ -30,10 +34,11 @@ use Rattle.ds_drive.specs.Done.{IsCutShort, IsStopped, stream}
 use Rattle.ds_drive.specs.Listening.{Listener, Tells}
 use Rattle.ds_drive.specs.Failures.{HoldsInputs, IsUnreadRun, LacksProcess, failure_number}
 use Rattle.ds_drive.specs.Outcomes.{IsFollowed, left, wants_more, where_asked}
+use Rattle.ds_drive.specs.Placed.{OfPlaced, WithPlaced, placed, seen}
 use Rattle.ds_drive.specs.Ran.{IsTraced, trace_summary}
 use Rattle.ds_drive.specs.Statuses.{fault_status}
 use Rattle.ds_drive.specs.Told.{failure_line}
-use Rattle.ds_drive.specs.TraceRuns.{CutsTrace, TraceEndsThenBy, TraceStopsBy, TracesPartThen}
+use Rattle.ds_drive.specs.TraceRuns.{CutsTrace, FilesTraceEnds, PlacedTraceEnds, TraceEndsThenBy, TraceStopsBy, TracesPartThen}
 use Rattle.ds_drive.specs.Windows.{lacking_of, windows_text}
 use Rattle.ds_drive.proofs.Cuts.{files_cut_by}
 use Rattle.ds_drive.proofs.Stops.{unread_stops}
@@ -117,8 +122,8 @@ module _ (holds : List ℕ → List ℕ → Type 0) (lacks : List ℕ → Type 0
   -- not all that the run is made of was read
   pub trace_unread : (f : Failure) (known : Option (List ℕ)) → IsUnreadRun f holds lacks request.run → TraceStopsBy f holds lacks request known known
   trace_unread f known unread =
-      unread_stops holds lacks (λ refused read. TraceEndsThenBy refused request read known known) (LacksProcess holds request.run (windows_in request.extras.memory)) request.run f known
-      (λ refused read r. ends_then_by request refused read known known (refused_untold refused request.view read known known request.run.most_time r (keeps_same known))) unread
+      unread_stops holds lacks (FilesTraceEnds holds request known known) (LacksProcess holds request.run (windows_in request.extras.memory)) request.run f known
+      (λ refused read r. inl (r, keeps_same known)) unread
 
   -- want of memory before the run
   pub memory_stops : (known : Option (List ℕ)) → TraceStopsBy (failure.Fault fault.Memory) holds lacks request known known
@@ -139,10 +144,43 @@ leaves_part fault.WriteFault request read old new part = inr part
 leaves_part fault.Failed request read old new none = absurd none
 leaves_part f request read old new refused = inl refused.1
 
+-- so with the lines of the sources
+placed_part : (f : Fault) (holds : List ℕ → List ℕ → Type 0) (request : TraceRequest) (read : Result State Refusal) (old new : Option (List ℕ)) → FilesTraceEnds holds request old new f read
+    → Keeps old new ⊎ OfPlaced holds request (λ told. Begins read (TracesPartThen told old new))
+placed_part f holds request read old new (inl refused) = inl refused.1
+placed_part f holds request read old new (inr p) = elim (leaves_part f (seen request p.pages) read old new p.so) [
+  | inl kept ↦ inl kept
+  | inr part ↦ inr (record { pages = p.pages; placed = p.placed; so = part })
+]
+
 trace_leaves : (f : Failure) (holds : List ℕ → List ℕ → Type 0) (lacks : List ℕ → Type 0) (request : TraceRequest) (old new : Option (List ℕ)) → TraceStopsBy f holds lacks request old new → Keeps old new ⊎ CutsTrace holds request old new
 trace_leaves f holds lacks request old new stops =
-    files_cut_by (λ e read. TraceEndsThenBy e request read old new) (LacksProcess holds request.run (windows_in request.extras.memory)) (λ read. Begins read (TracesPartThen request old new)) f holds lacks request.run old new
-    (λ e read ends. leaves_part e request read old new ends) stops
+    files_cut_by (FilesTraceEnds holds request old new) (LacksProcess holds request.run (windows_in request.extras.memory)) (λ read. OfPlaced holds request (λ told. Begins read (TracesPartThen told old new)))
+    f holds lacks request.run old new (λ e read ends. placed_part e holds request read old new ends) stops
+
+-- what holds of the trace with these lines, where they are those of the sources, holds of that with the lines of the sources
+pub with_placed : (value : PolicyValue) (s : Sources) (request : TraceRequest) (P : TraceRequest → Type 0) (pages : Bor (List (Option PageLines))) (view : View)
+    → view ≡ record request.view { pages = pages } → plain_pages pages.now ≡ placed value s request → P (record request { view = view }) → WithPlaced value s request P
+with_placed value s request P pages view is are so = record {
+  pages = pages;
+  are = are;
+  so = subst (λ (v : View). P (record request { view = v })) is so;
+}
+
+-- and of that with the lines of the files' sources
+pub of_placed : (holds : List ℕ → List ℕ → Type 0) (request : TraceRequest) (P : TraceRequest → Type 0) (value : PolicyValue) (s t : Sources) (input : List ℕ)
+    → HoldsInputs holds request.run value t input → s ≡ t → WithPlaced value s request P → OfPlaced holds request P
+of_placed holds request P value s t input held e w = record {
+  pages = w.pages;
+  placed = record { value = value; sources = t; input = input; held = held; are = w.are ∙ ap (λ (x : Sources). placed value x request) e };
+  so = w.so;
+}
+
+-- a fault of the trace of what was read is one of the trace of files
+pub files_end : (holds : List ℕ → List ℕ → Type 0) (request : TraceRequest) (value : PolicyValue) (s t : Sources) (input : List ℕ) (old new : Option (List ℕ)) (f : Fault) (read : Result State Refusal)
+    → HoldsInputs holds request.run value t input → s ≡ t → PlacedTraceEnds value s request old new f read → FilesTraceEnds holds request old new f read
+files_end holds request value s t input old new f read held e (inl memory) = inl (subst (λ (x : Fault). Refuses x read) (sym memory.0) tt, memory.1)
+files_end holds request value s t input old new f read held e (inr w) = inr (of_placed holds request (λ told. TraceEndsThenBy f told read old new) value s t input held e w)
 
 -- whatever the failure
 pub trace_cut : (words : List Text) (holds : List ℕ → List ℕ → Type 0) (lacks : List ℕ → Type 0) (request : TraceRequest) (f : Failure) (old new : Option (List ℕ)) → AsksForTrace words request → TraceStopsBy f holds lacks request old new → IsCutShort words holds old new

@@ -2,7 +2,9 @@
 use Rattle.std.proofs.Common.{◌≡◌, ◌∙◌, List, ap, subst}
 use Rattle.std.specs.Prelude.{Result, Ok, Err, IfOk}
 use Rattle.clap.specs.Words.{Text}
-use Rattle.ds_words.specs.Words.{AsksForDebug, AsksForRun, AsksForSomething, AsksForTrace}
+use Rattle.ds_words.specs.Words.{AsksForBare, AsksForDebug, AsksForExplain, AsksForRun, AsksForSomething, AsksForTrace}
+use Rattle.ds_words.specs.declared.words.BareRequest.{BareRequest}
+use Rattle.ds_words.specs.declared.words.ExplainRequest.{ExplainRequest}
 use Rattle.ds_words.specs.declared.words.Request.{Request}
 use Rattle.ds_words.specs.declared.words.RunRequest.{RunRequest}
 use Rattle.ds_words.specs.declared.words.TraceRequest.{TraceRequest}
@@ -25,10 +27,20 @@ module _ {E : Type 0} (words : List Text) (r : Result (Result Wish Untaken) E) (
   asks_trace v request some which so =
       if_ok_is (λ (x : Result Wish Untaken). (q : TraceRequest) → x ≡ Ok (wish.Trace q) → AsksForTrace words q) r w is so request (some ∙ ap (λ (y : Wish). Ok y) which)
 
+  -- for a run on the bare machine
+  pub asks_bare : (v : Wish) (request : BareRequest) → w ≡ Ok v → v ≡ wish.Bare request → IfOk r (λ x. (q : BareRequest) → x ≡ Ok (wish.Bare q) → AsksForBare words q) → AsksForBare words request
+  asks_bare v request some which so =
+      if_ok_is (λ (x : Result Wish Untaken). (q : BareRequest) → x ≡ Ok (wish.Bare q) → AsksForBare words q) r w is so request (some ∙ ap (λ (y : Wish). Ok y) which)
+
   -- for a session with a debugger
   pub asks_debug : (v : Wish) (request : Request) → w ≡ Ok v → v ≡ wish.Debug request → IfOk r (λ x. (q : Request) → x ≡ Ok (wish.Debug q) → AsksForDebug words q) → AsksForDebug words request
   asks_debug v request some which so =
       if_ok_is (λ (x : Result Wish Untaken). (q : Request) → x ≡ Ok (wish.Debug q) → AsksForDebug words q) r w is so request (some ∙ ap (λ (y : Wish). Ok y) which)
+
+  -- for an explained log
+  pub asks_explain : (v : Wish) (request : ExplainRequest) → w ≡ Ok v → v ≡ wish.Explain request → IfOk r (λ x. (q : ExplainRequest) → x ≡ Ok (wish.Explain q) → AsksForExplain words q) → AsksForExplain words request
+  asks_explain v request some which so =
+      if_ok_is (λ (x : Result Wish Untaken). (q : ExplainRequest) → x ≡ Ok (wish.Explain q) → AsksForExplain words q) r w is so request (some ∙ ap (λ (y : Wish). Ok y) which)
 
   -- for nothing
   pub asks_nothing : (cause : Untaken) → w ≡ Err cause → IfOk r (λ x. (e : Untaken) → x ≡ Err e → AsksForSomething words → ⊥) → AsksForSomething words → ⊥

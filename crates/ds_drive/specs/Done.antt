@@ -9,6 +9,7 @@ use Rattle.ds_station.specs.declared.fault.Fault.{Fault}
 use Rattle.ds_drive.specs.declared.failure.Failure.{Failure}
 use Rattle.ds_words.specs.declared.words.BareRequest.{BareRequest}
 use Rattle.ds_words.specs.declared.words.CheckRequest.{CheckRequest}
+use Rattle.ds_words.specs.declared.words.ExplainRequest.{ExplainRequest}
 use Rattle.ds_words.specs.declared.words.ListRequest.{ListRequest}
 use Rattle.ds_words.specs.declared.words.Request.{Request}
 use Rattle.ds_words.specs.declared.words.RunRequest.{RunRequest}
@@ -27,11 +28,12 @@ use Rattle.ds_drive.specs.BareRuns.{RunsBare, CutsBare, BareFailsBy, HasBareFaul
 use Rattle.ds_debug.specs.Serving.{pipes}
 use Rattle.ds_debug.specs.declared.serving.Ending.TheVariants.{Over}
 use Rattle.ds_drive.specs.Debugged.{CutsDebug, DebugStopsBy, HasDebugged, IsUnheard}
+use Rattle.ds_drive.specs.ExplainedLogs.{CutsExplained, ExplainStopsBy, HasExplained}
 use Rattle.ds_drive.specs.Checked.{Explains, CutsExplanation, ChecksBy, HasNotes}
 use Rattle.ds_drive.specs.Listed.{ListsFile, CutsListing, FailsBy, HasFaults}
 use Rattle.ds_drive.specs.Ran.{HasLeftFiles, HasRunDemo, HasRunFiles, HasTracedFiles}
 use Rattle.ds_drive.specs.TraceRuns.{CutsTrace, TraceStopsBy}
-use Rattle.ds_words.specs.Words.{AsksForBare, AsksForDemo, AsksForRun, AsksForList, AsksForCheck, AsksForDebug, AsksForTrace}
+use Rattle.ds_words.specs.Words.{AsksForBare, AsksForDemo, AsksForRun, AsksForList, AsksForCheck, AsksForDebug, AsksForExplain, AsksForTrace}
 
 -- what a writer held before, and what it holds now, where that is known
 pub record Stream : Type 0 where
@@ -50,7 +52,7 @@ pub record ComesTo (which : Came) (err : Listener) (P : Outcome → Type 0) : Ty
   pub told : Tells err outcome.told.items
 
 -- what the words ask for was run, listed or explained, and its text is written; a run is under a
--- policy, with its trace or without, or on the bare machine; or a session with a debugger was held to its end, where this was to be read and is left
+-- policy, with its trace or without, or on the bare machine; or a session with a debugger was held to its end, where this was to be read and is left; or the log of a run was explained
 abbrev pub IsDone : List Text → (List ℕ → List ℕ → Type 0) → Stream → Stream → Listener → Type 0
 IsDone words holds input out err =
     (AsksForDemo words × HasRunDemo out.old out.new)
@@ -59,7 +61,8 @@ IsDone words holds input out err =
     ⊎ (((request : CheckRequest) × AsksForCheck words request × Explains holds request out.old out.new)
     ⊎ (((request : BareRequest) × AsksForBare words request × RunsBare holds request out.old out.new)
     ⊎ (((request : TraceRequest) × AsksForTrace words request × ComesTo came.Done err (λ o. HasTracedFiles holds request o out.old out.new))
-    ⊎ ((request : Request) × AsksForDebug words request × HasDebugged Over holds request (pipes input.old input.new out.old out.new)))))))
+    ⊎ (((request : Request) × AsksForDebug words request × HasDebugged Over holds request (pipes input.old input.new out.old out.new))
+    ⊎ ((request : ExplainRequest) × AsksForExplain words request × HasExplained holds request out.old out.new)))))))
 
 -- nothing was to be read
 abbrev pub no_input : Stream
@@ -82,7 +85,7 @@ pub record AsksNoSummary (words : List Text) : Type 0 where
 
 -- nothing is written; or what the words ask for was run, and a front of the text of a run that was
 -- cut short between two turns, was left or has ended, and of what is written after it, and nothing else;
--- or a front of a listing, of what is explained, of a run on the bare machine, of a trace, or of a session
+-- or a front of a listing, of what is explained, of a run on the bare machine, of a trace, of a session, or of an explained log
 abbrev pub IsCutShort : List Text → (List ℕ → List ℕ → Type 0) → Option (List ℕ) → Option (List ℕ) → Type 0
 IsCutShort words holds old new =
     Keeps old new
@@ -92,7 +95,8 @@ IsCutShort words holds old new =
     ⊎ (((request : CheckRequest) × AsksForCheck words request × CutsExplanation holds request old new)
     ⊎ (((request : BareRequest) × AsksForBare words request × CutsBare holds request old new)
     ⊎ (((request : TraceRequest) × AsksForTrace words request × CutsTrace holds request old new)
-    ⊎ ((request : Request) × AsksForDebug words request × CutsDebug holds request old new)))))))
+    ⊎ (((request : Request) × AsksForDebug words request × CutsDebug holds request old new)
+    ⊎ ((request : ExplainRequest) × AsksForExplain words request × CutsExplained holds request old new))))))))
 
 -- the demonstration ended by a fault of this status, which was told
 pub record DemoStops (status : ℕ) (out : Stream) (err : Listener) : Type 0 where
@@ -150,7 +154,8 @@ IsStopped status words holds lacks out err =
     ⊎ (((request : CheckRequest) × AsksForCheck words request × (RefusesWith status err (λ r. ChecksBy r holds lacks request out.old out.new) ⊎ IsNoted status holds request out err))
     ⊎ (((request : BareRequest) × AsksForBare words request × (FailsWith status err (λ f. BareFailsBy f holds lacks request out.old out.new) ⊎ IsFaultyBare status holds request out err))
     ⊎ (((request : TraceRequest) × AsksForTrace words request × FailsWith status err (λ f. TraceStopsBy f holds lacks request out.old out.new))
-    ⊎ ((request : Request) × AsksForDebug words request × (FailsWith status err (λ f. DebugStopsBy f holds lacks request out.old out.new) ⊎ IsUnheard status holds request out.old out.new err)))))))
+    ⊎ (((request : Request) × AsksForDebug words request × (FailsWith status err (λ f. DebugStopsBy f holds lacks request out.old out.new) ⊎ IsUnheard status holds request out.old out.new err))
+    ⊎ ((request : ExplainRequest) × AsksForExplain words request × FailsWith status err (λ f. ExplainStopsBy f holds lacks request out.old out.new))))))))
 
 -- nothing is written, and want of memory was told
 abbrev pub WantsMemory : Stream → Listener → Type 0

@@ -89,6 +89,11 @@ pub record OfHeld (holds : List ℕ → List ℕ → Type 0) (request : Request)
   pub held : AreHeld holds request policy sources input
   pub so : P (inputs policy sources input request.most_time request.random)
 
+-- they hold this text of a policy of this value, the sources that it names and this input
+pub record HoldsTexts (holds : List ℕ → List ℕ → Type 0) (request : Request) (text : List ℕ) (value : PolicyValue) (sources : Sources) (input : List ℕ) : Type 0 where
+  pub read : policy_of text ≡ Ok value
+  pub held : AreHeld holds request text sources input
+
 -- they hold a policy of this value, the sources that it names and this input
 pub record HoldsInputs (holds : List ℕ → List ℕ → Type 0) (request : Request) (value : PolicyValue) (sources : Sources) (input : List ℕ) : Type 0 where
   pub policy : List ℕ

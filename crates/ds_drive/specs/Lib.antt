@@ -9,10 +9,12 @@ pub mod Debugged
 pub mod Listening
 pub mod Done
 pub mod Failures
+pub mod ExplainedLogs
 pub mod Hints
 pub mod Inside
 pub mod Noted
 pub mod Outcomes
+pub mod Placed
 pub mod PolicyPlaces
 pub mod Ran
 pub mod Reading

@@ -6,7 +6,8 @@ use Rattle.ds_asm.specs.Faults.{all_faults}
 use Rattle.ds_listing.specs.declared.annotated.Listed.{Listed}
 use Rattle.ds_listing.specs.declared.annotated.Listed.TheVariants as came
 use Rattle.ds_listing.specs.Listing.{listing_of}
-use Rattle.ds_listing.specs.Sources.{source_of_file}
+use Rattle.ds_listing.specs.NamedTexts.{file_as}
+use Rattle.ds_listing.specs.declared.names.RegisterNames.{RegisterNames}
 use Rattle.ds_log.specs.Sent.{AppendsPart}
 use Rattle.ds_station.specs.declared.fault.Fault.TheVariants as fault
 use Rattle.ds_drive.specs.declared.failure.Failure.{Failure}
@@ -15,22 +16,22 @@ use Rattle.ds_drive.specs.declared.list.Listing.{Listing}
 use Rattle.ds_drive.specs.declared.list.Listing.TheVariants as listing
 use Rattle.ds_words.specs.declared.words.ListRequest.{ListRequest}
 
--- the source of a file; or the listing of a source, or its first fault
-abbrev pub listed : Bool → List ℕ → Result (List ℕ) SourceFault
-listed true bytes = Ok (source_of_file bytes)
-listed false text = listing_of text
+-- the source of a file, with registers called by these names; or the listing of a source, or its first fault
+abbrev pub listed : RegisterNames → Bool → List ℕ → Result (List ℕ) SourceFault
+listed names true bytes = Ok (file_as names bytes)
+listed names false text = listing_of text
 
 -- what comes of it: the text, or all faults of the source, of which it has one at least
-abbrev pub IsListed : Bool → List ℕ → Listed → Type 0
-IsListed words bytes (came.Sheet sheet) = listed words bytes ≡ Ok sheet.items
-IsListed words bytes (came.Faults faults) = (fault : SourceFault) × (words ≡ false) × (listed words bytes ≡ Err fault) × (faults.items ≡ all_faults bytes)
+abbrev pub IsListed : RegisterNames → Bool → List ℕ → Listed → Type 0
+IsListed names words bytes (came.Sheet sheet) = listed names words bytes ≡ Ok sheet.items
+IsListed names words bytes (came.Faults faults) = (fault : SourceFault) × (words ≡ false) × (listed names words bytes ≡ Err fault) × (faults.items ≡ all_faults bytes)
 
 -- the named file holds bytes that are listed so, and of their listing this holds
 pub record OfListing (holds : List ℕ → List ℕ → Type 0) (request : ListRequest) (P : List ℕ → Type 0) : Type 0 where
   pub bytes : List ℕ
   pub text : List ℕ
   pub held : holds request.file.now bytes
-  pub is : listed request.words bytes ≡ Ok text
+  pub is : listed request.names request.words bytes ≡ Ok text
   pub so : P text
 
 -- its listing is written
@@ -46,7 +47,7 @@ pub record HasFaults (holds : List ℕ → List ℕ → Type 0) (request : ListR
   pub held : holds request.file.now text
   pub source : request.words ≡ false
   pub first : SourceFault
-  pub refused : listed request.words text ≡ Err first
+  pub refused : listed request.names request.words text ≡ Err first
   pub all : faults ≡ all_faults text
 
 -- what comes of a listing: it is written, or the faults are all that the source has, and nothing is

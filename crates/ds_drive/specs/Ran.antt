@@ -20,6 +20,7 @@ use Rattle.ds_words.specs.declared.words.TraceRequest.{TraceRequest}
 use Rattle.ds_drive.specs.Demo.{demo_inputs, demo_loaded}
 use Rattle.ds_drive.specs.Failures.{AreHeld}
 use Rattle.ds_drive.specs.Outcomes.{IsFollowed, left, where_asked}
+use Rattle.ds_drive.specs.Placed.{OfPlaced}
 use Rattle.ds_trace.specs.Accounts.{account_text}
 use Rattle.ds_trace.specs.Summed.{summed_text}
 use Rattle.ds_view.specs.Views.{whole}
@@ -147,6 +148,6 @@ pub record IsTraced (request : TraceRequest) (o : Outcome) (old new : Option (Li
   pub traces : Begins read (TracesThen request o (writing old between new))
   pub real : Begins begun (WritesTraceReally request.view old between request.run.most_time request.run.random)
 
--- the files were traced
+-- the files were traced, with the lines of their sources where the words want these
 abbrev pub HasTracedFiles : (List ℕ → List ℕ → Type 0) → TraceRequest → Outcome → Option (List ℕ) → Option (List ℕ) → Type 0
-HasTracedFiles holds request o old new = OfHeldBoth holds request.run (λ read begun. IsTraced request o old new read begun)
+HasTracedFiles holds request o old new = OfHeldBoth holds request.run (λ read begun. OfPlaced holds request (λ told. IsTraced told o old new read begun))

@@ -7,9 +7,10 @@ use Rattle.ds_policy.specs.PolicyText.{policy_of}
 use Rattle.ds_policy.specs.Refusal.{PolicyRefusal}
 use Rattle.ds_policy.specs.Value.{PolicyValue}
 use Rattle.ds_station.specs.declared.fault.Fault.TheVariants as fault
-use Rattle.ds_words.specs.Words.{AsksForBare, AsksForCheck, AsksForDebug, AsksForList, AsksForRun, AsksForTrace}
+use Rattle.ds_words.specs.Words.{AsksForBare, AsksForCheck, AsksForDebug, AsksForExplain, AsksForList, AsksForRun, AsksForTrace}
 use Rattle.ds_words.specs.declared.words.BareRequest.{BareRequest}
 use Rattle.ds_words.specs.declared.words.CheckRequest.{CheckRequest}
+use Rattle.ds_words.specs.declared.words.ExplainRequest.{ExplainRequest}
 use Rattle.ds_words.specs.declared.words.ListRequest.{ListRequest}
 use Rattle.ds_words.specs.declared.words.Request.{Request}
 use Rattle.ds_words.specs.declared.words.RunRequest.{RunRequest}
@@ -114,4 +115,5 @@ ReadsFor status words holds old new =
     ⊎ (((request : CheckRequest) × AsksForCheck words request × ReadsRunUntil (HasStatus status) holds request.policy.now (input_names request.input) old new)
     ⊎ (((request : BareRequest) × AsksForBare words request × ReadsUntil (HasStatus status) (bare_names request) old new)
     ⊎ (((request : TraceRequest) × AsksForTrace words request × ReadsRunUntil (HasStatus status) holds request.run.policy.now (request.run.input.now ∷ []) old new)
-    ⊎ ((request : Request) × AsksForDebug words request × ReadsRunUntil (HasStatus status) holds request.policy.now (request.input.now ∷ []) old new))))))
+    ⊎ (((request : Request) × AsksForDebug words request × ReadsRunUntil (HasStatus status) holds request.policy.now (request.input.now ∷ []) old new)
+    ⊎ ((request : ExplainRequest) × AsksForExplain words request × ReadsRunUntil (HasStatus status) holds request.run.policy.now (request.run.input.now ∷ []) old new)))))))

@@ -1,11 +1,13 @@
 -- What a trace of a run of files writes, and what is left where there is none.
 use Rattle.std.specs.Prelude.{◌≡◌, ◌⊎◌, ◌++◌, ℕ, true, List, Option, Result}
+use Rattle.std.specs.Io.KnownBytes.{Keeps}
 use Rattle.ds_log.specs.Sent.{AppendsPart}
-use Rattle.ds_pagemap.specs.Inputs.{Refusal}
+use Rattle.ds_pagemap.specs.Inputs.{Refusal, Sources}
 use Rattle.ds_pagemap.specs.Machine.{State}
 use Rattle.ds_pagemap.specs.Run.{Reaches}
 use Rattle.ds_pagemap.specs.Text.{text_of}
-use Rattle.ds_station.specs.Headline.{Begins}
+use Rattle.ds_policy.specs.Value.{PolicyValue}
+use Rattle.ds_station.specs.Headline.{Begins, Refuses}
 use Rattle.ds_station.specs.declared.fault.Fault.{Fault}
 use Rattle.ds_station.specs.declared.fault.Fault.TheVariants as fault
 use Rattle.ds_trace.specs.Processors.{TellsProcessor}
@@ -15,6 +17,7 @@ use Rattle.ds_words.specs.declared.words.TraceRequest.{TraceRequest}
 use Rattle.ds_drive.specs.declared.failure.Failure.{Failure}
 use Rattle.ds_drive.specs.Failures.{FilesStop, LacksProcess, OfHeld}
 use Rattle.ds_drive.specs.Outcomes.{wants_more}
+use Rattle.ds_drive.specs.Placed.{OfPlaced, WithPlaced}
 use Rattle.ds_drive.specs.Windows.{windows_text}
 
 -- a run came somewhere, and a front of its trace, of its text and of the lines of the windows is written
@@ -27,7 +30,7 @@ pub record TracesPartThen (request : TraceRequest) (old new : Option (List ℕ))
 
 -- this of the files
 abbrev pub CutsTrace : (List ℕ → List ℕ → Type 0) → TraceRequest → Option (List ℕ) → Option (List ℕ) → Type 0
-CutsTrace holds request old new = OfHeld holds request.run (λ read. Begins read (TracesPartThen request old new))
+CutsTrace holds request old new = OfHeld holds request.run (λ read. OfPlaced holds request (λ told. Begins read (TracesPartThen told old new)))
 
 -- when each fault of a trace comes, and what is written then; where the words want more, want of memory may come after the text, too
 abbrev pub TraceEndsThenBy : Fault → TraceRequest → Result State Refusal → Option (List ℕ) → Option (List ℕ) → Type 0
@@ -36,7 +39,17 @@ TraceEndsThenBy fault.Memory request read old new =
 TraceEndsThenBy fault.WriteFault request read old new = Begins read (TracesPartThen request old new)
 TraceEndsThenBy f request read old new = TraceEndsBy f request.view read old new request.run.most_time
 
+-- a fault of a trace under a policy: want of memory, and nothing is written, or it comes of the trace with the lines of the sources
+abbrev pub PlacedTraceEnds : PolicyValue → Sources → TraceRequest → Option (List ℕ) → Option (List ℕ) → Fault → Result State Refusal → Type 0
+PlacedTraceEnds value sources request old new f read =
+    ((f ≡ fault.Memory) × Keeps old new) ⊎ WithPlaced value sources request (λ told. TraceEndsThenBy f told read old new)
+
+-- a fault of a trace of files: their inputs are refused, and nothing is written, or it comes of the trace with the lines of their sources
+abbrev pub FilesTraceEnds : (List ℕ → List ℕ → Type 0) → TraceRequest → Option (List ℕ) → Option (List ℕ) → Fault → Result State Refusal → Type 0
+FilesTraceEnds holds request old new fault read =
+    (Refuses fault read × Keeps old new) ⊎ OfPlaced holds request (λ told. TraceEndsThenBy fault told read old new)
+
 -- why each failure of a trace comes, and what it leaves
 abbrev pub TraceStopsBy : Failure → (List ℕ → List ℕ → Type 0) → (List ℕ → Type 0) → TraceRequest → Option (List ℕ) → Option (List ℕ) → Type 0
 TraceStopsBy f holds lacks request old new =
-    FilesStop (λ fault read. TraceEndsThenBy fault request read old new) (LacksProcess holds request.run (windows_in request.extras.memory)) f holds lacks request.run old new
+    FilesStop (FilesTraceEnds holds request old new) (LacksProcess holds request.run (windows_in request.extras.memory)) f holds lacks request.run old new

@@ -5,6 +5,7 @@ mod bare;
 mod check;
 mod debug;
 mod demo;
+mod explain;
 mod failure;
 mod faults;
 mod files;
@@ -30,9 +31,10 @@ pub use bare::bare_file;
 pub use check::{Checking, check_files};
 pub use debug::debug_files;
 pub use ds_words::{
-    BareOnly, BareRequest, BareView, CheckRequest, Extras, ListRequest, Request, RunRequest, Span,
-    Spans, TraceRequest, Window, Windows, Wish, program_words, wish_of,
+    BareOnly, BareRequest, BareView, CheckRequest, ExplainRequest, Extras, ListRequest, Request,
+    RunRequest, Span, Spans, TraceRequest, Window, Windows, Wish, program_words, wish_of,
 };
+pub use explain::explain_files;
 pub use failure::Failure;
 pub use files::{FileFault, Files, MOST_BYTES, SystemFiles};
 pub use list::{Listing, list_file, tell_faults};

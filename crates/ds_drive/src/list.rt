@@ -17,7 +17,7 @@ use crate::refused::FaultySource;
 use crate::run::named_file;
 use crate::status::INPUT_REFUSED;
 use ds_asm::SourceFault;
-use ds_listing::{Listed, listing_or_faults, source_of_file};
+use ds_listing::{Listed, RegisterNames, listing_or_faults, source_of_file_as};
 use ds_log::{Output, send};
 use ds_source_reasons::FaultyLines;
 use ds_station::Fault;
@@ -34,12 +34,17 @@ pub enum Listing {
     Faults(FaultySource),
 }
 
-/// The source of a file's words, or the listing of a source or all its faults.
-fn listed(alloc: Global, words: bool, bytes: &[u8]) -> Result<Listed, AllocError>
-    ensures { IfOk result (λ came. IsListed words bytes.now came) }
+/// The source of a file's words, with registers called by these names, or the listing of a source or all its faults.
+fn listed(
+    alloc: Global,
+    names: RegisterNames,
+    words: bool,
+    bytes: &[u8],
+) -> Result<Listed, AllocError>
+    ensures { IfOk result (λ came. IsListed names words bytes.now came) }
 {
     if words {
-        let text = source_of_file(alloc, bytes)?;
+        let text = source_of_file_as(alloc, bytes, names)?;
         Ok(Listed::Sheet(text.into_bytes()))
     } else {
         listing_or_faults(alloc, bytes)
@@ -67,7 +72,7 @@ pub fn list_file<'a, F: Files, W: Write>(
     ensures lacked { (file : List ℕ) → F.lacks files.new file → F.lacks files.old file }
 {
     let bytes = named_file(alloc, files, request.file)?;
-    match listed(alloc, request.words, &bytes)? {
+    match listed(alloc, request.names, request.words, &bytes)? {
         Listed::Sheet(text) => match send(out, &text) {
             Ok(()) => Ok(Listing::Written),
             Err(_) => Err(Failure::Fault(Fault::WriteFault)),

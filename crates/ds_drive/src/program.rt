@@ -13,6 +13,7 @@ use crate::bare::bare_file;
 use crate::check::{Checking, check_files};
 use crate::debug::{debug_files, tell_unread};
 use crate::demo::run_demo;
+use crate::explain::explain_files;
 use crate::failure::Failure;
 use crate::files::Files;
 use crate::list::{Listing, list_file, tell_faults};
@@ -134,6 +135,10 @@ pub fn drive_with_input<F: Files, R: Read, W: Write, E: Output>(
         Ok(Ok(Wish::Debug(request))) => match debug_files(alloc, &request, files, input, out) {
             Ok(Ending::Over) => DONE,
             Ok(Ending::Unread) => tell_unread(err),
+            Err(failure) => tell(err, &failure),
+        },
+        Ok(Ok(Wish::Explain(request))) => match explain_files(alloc, &request, files, out) {
+            Ok(()) => DONE,
             Err(failure) => tell(err, &failure),
         },
         Ok(Err(Untaken::Kind)) => {

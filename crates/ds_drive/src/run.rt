@@ -2,7 +2,7 @@
 ghost use Rattle.std.specs.Prelude.{◌≡◌, ◌⊎◌, ◌≤◌, ◌∷◌, ℕ, List, [], IfErr, IfOk, None, OnOk, All, length, map};
 ghost use Rattle.ds_station.specs.Headline.{sources_seen};
 ghost use Rattle.ds_drive.specs.AtFault.{texts_seen};
-ghost use Rattle.ds_drive.specs.Failures.{AreUnread, AreUntaken, HoldsInputs, IsUnread, IsUnreadRun, StopsBy};
+ghost use Rattle.ds_drive.specs.Failures.{AreUnread, AreUntaken, HoldsInputs, HoldsTexts, IsUnread, IsUnreadRun, StopsBy};
 ghost use Rattle.ds_drive.specs.Inside.{outside_of};
 ghost use Rattle.ds_drive.specs.Ran.{HasLeftFiles, HasRunFiles};
 ghost use Rattle.ds_drive.specs.Reading.{ReadsAll, ReadsRun, ReadsRunUntil, ReadsUntil, TellsOf, TellsOfRun};
@@ -27,9 +27,10 @@ pub(crate) struct SourceText {
     pub(crate) text: Vec<u8>,
 }
 
-/// A policy, the texts of the sources that it names, and an input.
+/// A policy with its text, the texts of the sources that it names, and an input.
 #[derive(Drop)]
 pub(crate) struct Inputs {
+    pub(crate) text: Vec<u8>,
     pub(crate) policy: Policy,
     pub(crate) texts: Vec<SourceText>,
     pub(crate) input: Vec<u8>,
@@ -91,6 +92,8 @@ pub(crate) fn read_inputs<'a, F: Files>(
 ) -> Result<Inputs, Failure<'a>>
     ensures ok { IfOk result (λ inputs. HoldsInputs (F.holds files.old) request.now
         inputs.policy (texts_seen inputs.texts.items) inputs.input.items) }
+    ensures texts { IfOk result (λ inputs. HoldsTexts (F.holds files.old) request.now
+        inputs.text.items inputs.policy (texts_seen inputs.texts.items) inputs.input.items) }
     ensures err { IfErr result
         (λ f. IsUnreadRun f (F.holds files.old) (F.lacks files.old) request.now) }
     ensures reads { OnOk result (ReadsRun (F.holds files.old) request.now.policy.now
@@ -101,14 +104,15 @@ pub(crate) fn read_inputs<'a, F: Files>(
         → F.holds files.old file bytes }
     ensures lacked { (file : List ℕ) → F.lacks files.new file → F.lacks files.old file }
 {
-    let policy_text = named_file(alloc, files, request.policy)?;
+    let text = named_file(alloc, files, request.policy)?;
     let input = named_file(alloc, files, request.input)?;
-    let policy = match Policy::read(alloc, policy_text.as_slice()) {
+    let policy = match Policy::read(alloc, text.as_slice()) {
         Ok(policy) => policy,
         Err(fault) => return Err(Failure::Fault(Fault::from(fault))),
     };
     let texts = source_texts(alloc, files, policy.sources(), request.inside)?;
     Ok(Inputs {
+        text,
         policy,
         texts,
         input,

@@ -1,9 +1,9 @@
 -- Lines that are told one after the other, and what is written of them.
-use Rattle.std.proofs.Common.{◌≡◌, ℕ, suc, ◌-◌, ◌<◌, List, [], ◌∷◌, ◌++◌, take, drop, refl, sym, ap, subst, ◌∙◌, arith, append_assoc, length, ne_eqb, zero, Bool, true, false, Option, Some, None, Result, Ok, Err}
+use Rattle.std.proofs.Common.{◌≡◌, ℕ, suc, ◌-◌, ◌<◌, List, [], ◌∷◌, ◌++◌, take, drop, refl, sym, ap, subst, ◌∙◌, arith, append_assoc, length, ne_eqb, zero, Bool, true, false, Option, Result, Ok, Err}
 use Rattle.std.proofs.lemmas.List.{append-nil}
 use Rattle.std.proofs.lemmas.Bool.{and_parts, true≢false}
 use Rattle.std.proofs.lemmas.Bool.Decides.{nat_tests}
-use Rattle.std.specs.Prelude.{◌==◌, ◌&&◌, not, nat_lt, flat_map}
+use Rattle.std.specs.Prelude.{◌==◌, ◌&&◌, not, nat_lt, flat_map, OnOk}
 use Rattle.std.specs.Io.KnownBytes.{Appends}
 use Rattle.ds_asm.specs.Assembly.{lines_of}
 use Rattle.ds_log.specs.Sent.{AppendsPart}
@@ -14,10 +14,10 @@ use Rattle.ds_refinement.specs.Held.{Held}
 use Rattle.ds_refinement.specs.Runs.{RunsTo}
 use Rattle.ds_refinement.specs.Stands.{Stands}
 use Rattle.ds_station.specs.Headline.{Begins}
-use Rattle.ds_explain.specs.Chosen.{chosen_of, end_text, most_of, skipped}
+use Rattle.ds_explain.specs.Chosen.{end_text, most_of, skipped}
 use Rattle.ds_explain.specs.Explained.{Explains, ExplainsLog, HasLog, Tells, WritesExplained, WritesExplainedPart}
-use Rattle.ds_explain.specs.Moments.{AreTold, IsTold, told_text}
-use Rattle.ds_log_reasons.specs.Sentences.{Context}
+use Rattle.ds_explain.specs.Moments.{AreTold, IsTold, Moments, moments, told_text}
+use Rattle.ds_log_reasons.specs.Sentences.{Context, Placed, placed}
 use Rattle.ds_explain.specs.declared.chosen.Chosen.{Chosen}
 
 -- The test of whether a line is left.
@@ -48,16 +48,17 @@ none_left zero rest over = refl
 none_left (suc k) [] over = refl
 none_left (suc k) (b ∷ rest) over = absurd (is_over (nat_lt 0 (suc k)) (not (length (b ∷ rest) == 0)) (counted k) (ap not (ne_eqb (length (b ∷ rest)) 0 (omega arith))) over)
 
-module _ (x : Context) (n : ℕ) (first h next : Held) (all : List (List ℕ)) (written : List ℕ) where
+module _ (x : Placed) (n : ℕ) (first h next : Held) (all : List (List ℕ)) (written : List ℕ) where
   -- one line more is told
   pub told_more : (left : ℕ) (rest line behind more : List ℕ) → 0 < left → lines_of rest ≡ line ∷ lines_of behind → IsTold x n line h next written more
       → ((later : List ℕ) → AreTold x n h (take left (lines_of rest)) later → AreTold x n first all (written ++ later))
       → (later : List ℕ) → AreTold x n next (take (left - 1) (lines_of behind)) later → AreTold x n first all (more ++ later)
-  told_more left rest line behind more some is told before later are =
+  told_more left rest line behind more some is (at, last, runs, adds) before later are =
       let number : left ≡ suc (left - 1) = omega (arith, some) in
       let e : take left (lines_of rest) ≡ line ∷ take (left - 1) (lines_of behind) = ap (take left) is ∙ ap (λ (k : ℕ). take k (line ∷ lines_of behind)) number in
-      let whole = before (told_text x line next ++ later) (subst (λ (ls : List (List ℕ)). AreTold x n h ls (told_text x line next ++ later)) (sym e) (next, later, told.0, refl, are)) in
-      subst (AreTold x n first all) (sym (ap (λ (t : List ℕ). t ++ later) told.1 ∙ append_assoc written (told_text x line next) later)) whole
+      let m : Moments = moments at last next in
+      let whole = before (told_text x line m ++ later) (subst (λ (ls : List (List ℕ)). AreTold x n h ls (told_text x line m ++ later)) (sym e) (m, later, runs, refl, are)) in
+      subst (AreTold x n first all) (sym (ap (λ (t : List ℕ). t ++ later) adds ∙ append_assoc written (told_text x line m) later)) whole
 
   -- no line is left
   pub told_all : (lines : List (List ℕ)) → lines ≡ []
@@ -79,20 +80,20 @@ has_log n read s t log b runs shows =
     let u = runs.runs b.0 b.2 in (b.0, b.1, record { last = u.0; ends = u.1; logged = shows u.0 u.2 })
 
 -- what is told of lines by a station that begins the run
-pub tells_from : (x : Context) (n : ℕ) (read : Result State Refusal) (s : Held) (lines : List (List ℕ)) (text : List ℕ) → Begins read (Stands s)
+pub tells_from : (x : Placed) (n : ℕ) (read : Result State Refusal) (s : Held) (lines : List (List ℕ)) (text : List ℕ) → Begins read (Stands s)
     → AreTold x n s lines text → Begins read (Tells x n lines text)
 tells_from x n read s lines text b told = (b.0, b.1, record { start = s; stands = b.2; told = told })
 
 -- with what is said of the others
 pub explains_from : (x : Context) (c : Chosen) (n : ℕ) (read : Result State Refusal) (log part told text : List ℕ) → lines_of part ≡ drop (skipped c) (lines_of log)
-    → Begins read (Tells x n (take (most_of c) (lines_of part)) told) → text ≡ told ++ end_text c (lines_of log)
+    → Begins read (Tells (placed x) n (take (most_of c) (lines_of part)) told) → text ≡ told ++ end_text c (lines_of log)
     → Begins read (Explains x c n (lines_of log) text)
 explains_from x c n read log part told text is b all = (
   b.0,
   b.1,
   record {
     lines_told = told;
-    tells = subst (λ (ls : List (List ℕ)). Tells x n (take (most_of c) ls) told b.0) is b.2;
+    tells = subst (λ (ls : List (List ℕ)). Tells (placed x) n (take (most_of c) ls) told b.0) is b.2;
     all = all;
   },
 )
@@ -119,3 +120,8 @@ explained_whole x c n read text old new b written = (b.0, b.1, record { text = t
 pub explained_part : (x : Context) (c : Chosen) (n : ℕ) (read : Result State Refusal) (text : List ℕ) (old new : Option (List ℕ)) → Begins read (ExplainsLog x c n text)
     → AppendsPart old new text → Begins read (WritesExplainedPart x c old new n)
 explained_part x c n read text old new b written = (b.0, b.1, record { text = text; explains = b.2; written = written })
+
+-- where an answer comes, what follows of what is known then
+pub gives : {T E P Q : Type 0} (r : Result T E) → (P → Q) → OnOk r P → OnOk r Q
+gives (Ok x) f p = f p
+gives (Err e) f p = tt

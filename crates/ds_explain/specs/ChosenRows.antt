@@ -1,5 +1,5 @@
 -- Worked choices of lines.
-use Rattle.std.specs.Prelude.{codes, refl, ◌≡◌, ℕ, List, [], ◌∷◌, map}
+use Rattle.std.specs.Prelude.{codes, refl, ◌≡◌, [], ◌∷◌, map}
 use Rattle.std.specs.Fmt.{digits}
 use Rattle.ds_explain.specs.Chosen.{chosen_of, end_by}
 use Rattle.ds_explain.specs.declared.chosen.Chosen.TheVariants.{All, One}

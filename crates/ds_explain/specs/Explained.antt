@@ -15,7 +15,7 @@ use Rattle.ds_station.specs.declared.fault.Fault.TheVariants as fault
 use Rattle.ds_explain.specs.declared.chosen.Chosen.{Chosen}
 use Rattle.ds_explain.specs.Chosen.{chosen_of, end_text}
 use Rattle.ds_explain.specs.Moments.{AreTold}
-use Rattle.ds_log_reasons.specs.Sentences.{Context}
+use Rattle.ds_log_reasons.specs.Sentences.{Context, Placed, placed}
 
 -- a run for n from the first state ends with this log
 pub record HasLog (n : ℕ) (log : List ℕ) (first : State) : Type 0 where
@@ -24,7 +24,7 @@ pub record HasLog (n : ℕ) (log : List ℕ) (first : State) : Type 0 where
   pub logged : log ≡ flat_map line_text last.log
 
 -- a station that stands for the first state tells these lines, one after the other
-pub record Tells (x : Context) (n : ℕ) (lines : List (List ℕ)) (text : List ℕ) (first : State) : Type 0 where
+pub record Tells (x : Placed) (n : ℕ) (lines : List (List ℕ)) (text : List ℕ) (first : State) : Type 0 where
   pub start : Held
   pub stands : Stands start first
   pub told : AreTold x n start lines text
@@ -32,7 +32,7 @@ pub record Tells (x : Context) (n : ℕ) (lines : List (List ℕ)) (text : List 
 -- those of these lines that are chosen, and what is said of the others
 pub record Explains (x : Context) (c : Chosen) (n : ℕ) (lines : List (List ℕ)) (text : List ℕ) (first : State) : Type 0 where
   pub lines_told : List ℕ
-  pub tells : Tells x n (chosen_of c lines) lines_told first
+  pub tells : Tells (placed x) n (chosen_of c lines) lines_told first
   pub all : text ≡ lines_told ++ end_text c lines
 
 -- of the log of a run for n

@@ -8,12 +8,12 @@ ghost use Rattle.ds_station.specs.Faults.{is_unwritten};
 ghost use Rattle.ds_station.specs.Headline.{Begins, IsRefused, Refuses, sources_seen};
 ghost use Rattle.ds_explain.specs.Chosen.{end_text, most_of};
 ghost use Rattle.ds_explain.specs.Explained.{ExplainEndsBy, Explains, HasLog, Tells, WritesExplained};
-ghost use Rattle.ds_log_reasons.specs.Sentences.{context};
+ghost use Rattle.ds_log_reasons.specs.Sentences.{context, placed};
 
 use crate::chosen::Chosen;
 use crate::moments::told_lines;
 use ds_log::{Output, send};
-use ds_log_reasons::Texts;
+use ds_log_reasons::{Known, Texts, pages_with};
 use ds_policy::Policy;
 use ds_station::{Fault, prepare};
 use std::alloc::Global;
@@ -61,16 +61,25 @@ fn told<'a>(
     ensures ok { IfOk result (λ text. Begins
         (inputs_under texts.entry.policy.now (sources_seen texts.entry.sources.sources.now)
         input.now n random)
-        (Tells (context texts.entry) n (take most (lines_of log.now)) text.items)) }
+        (Tells (placed (context texts.entry)) n (take most (lines_of log.now)) text.items)) }
     ensures err { IfErr result (λ f. Refuses f
         (inputs_under texts.entry.policy.now (sources_seen texts.entry.sources.sources.now)
         input.now n random)) }
 {
+    let pages = match pages_with(alloc, texts.sources, texts.policy.pages()) {
+        Ok(pages) => pages,
+        Err(_) => return Err(Fault::Memory),
+    };
+    let known = Known {
+        text: texts.text,
+        policy: texts.policy,
+        pages: pages.as_slice(),
+    };
     let mut station = match prepare(alloc, texts.policy, texts.sources.sources, input, n, random) {
         Ok(station) => station,
         Err(refused) => return Err(refused),
     };
-    match told_lines(alloc, texts, n, most, log, &mut station) {
+    match told_lines(alloc, known, n, most, log, &mut station) {
         Ok(text) => Ok(text),
         Err(_) => Err(Fault::Memory),
     }

@@ -151,13 +151,6 @@ pub file_read : (bytes : List ℕ) → AreSaid bytes → length bytes ≤ 65536 
 file_read bytes said few = file_read_by (starts_with (λ a b. a == b) bytes elf_magic) bytes refl said few
 
 -- fewer than four bytes are no word
-pub few_lines : (bytes : List ℕ) → length bytes < 4 → source_of_bytes bytes ≡ byte_lines bytes
-few_lines [] few = refl
-few_lines (a ∷ []) few = refl
-few_lines (a ∷ b ∷ []) few = refl
-few_lines (a ∷ b ∷ c ∷ []) few = refl
-few_lines (a ∷ b ∷ c ∷ d ∷ bytes) few = absurd (omega arith)
-
 pub few_said : (bytes : List ℕ) → length bytes < 4 → All (λ b. b < 256) bytes → AreSaid bytes
 few_said [] few small = small
 few_said (a ∷ []) few small = small

@@ -12,3 +12,6 @@ pub mod Sources
 pub mod ByteSources
 pub mod Listings
 pub mod LabelValues
+pub mod NamedTexts
+pub mod PlacedLines
+pub mod PlacedPages

@@ -4,4 +4,8 @@ pub mod Came
 pub mod Sources
 pub mod Plain
 pub mod Laws
+pub mod NamedTexts
+pub mod Places
+pub mod Pages
+pub mod PlaceRows
 pub mod Worked

@@ -1,7 +1,7 @@
 //! Numbers as a source writes them.
 ghost use Rattle.std.specs.Prelude.{◌≡◌, ◌+◌, ◌%◌, ◌<◌, ◌++◌, ◌∷◌, [], OnOk, decimal};
 ghost use Rattle.std.specs.String.{string_bytes};
-ghost use Rattle.ds_listing.specs.Texts.{hex2, hex4, hex8, hex_digit, register_text, signed_text, distance_text};
+ghost use Rattle.ds_listing.specs.Texts.{hex2, hex4, hex8, hex_digit, signed_text, distance_text};
 
 use itoa::Buffer;
 use std::alloc::AllocError;
@@ -11,14 +11,6 @@ pub(crate) fn push_decimal(text: &mut String, number: u32) -> Result<(), AllocEr
     ensures { OnOk result (string_bytes text.new ≡ string_bytes text.old ++ decimal number) }
 {
     text.push_str(Buffer::new().format(number))
-}
-
-/// Adds a register by its number.
-pub(crate) fn push_register(text: &mut String, number: u8) -> Result<(), AllocError>
-    ensures { OnOk result (string_bytes text.new ≡ string_bytes text.old ++ register_text number) }
-{
-    text.push('$')?;
-    push_decimal(text, u32::from(number))
 }
 
 /// Adds a half that is a number in two's complement.

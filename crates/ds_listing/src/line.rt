@@ -3,42 +3,60 @@ ghost use Rattle.std.specs.Prelude.{◌≡◌, ◌++◌, OnOk};
 ghost use Rattle.std.specs.String.{string_bytes};
 ghost use Rattle.ds_isa.specs.Fields.{in_word};
 ghost use Rattle.ds_listing.specs.Laws.{IsLineOf};
+ghost use Rattle.ds_listing.specs.NamedTexts.{form_as, instruction_as, text_as};
 ghost use Rattle.ds_listing.specs.Plain.{plain_form};
-ghost use Rattle.ds_listing.specs.Texts.{instruction_text, word_text, form_text, text_of};
+ghost use Rattle.ds_listing.specs.Texts.{text_of, word_text};
 
 use crate::digits::push_hex;
 use crate::form::{Form, form_of};
 use crate::law::a_word_is_read_back;
+use crate::names::RegisterNames;
 use crate::operand::{has_label, is_left_out, push_operands};
 use std::alloc::AllocError;
 
 /// Adds the text of a word: its instruction as the assembler reads it, or its number after `.word`
 /// where it has none. A branch or a jump is its number too, with the instruction in a comment, since
 /// the word alone has no label.
-#[tactic(auto, unfolding(crate::specs::Texts::text_of))]
+#[tactic(auto, using(crate::proofs::NamedTexts::plain_text))]
 pub fn push_word(text: &mut String, word: u32) -> Result<(), AllocError>
     ensures text { OnOk result (string_bytes text.new ≡ string_bytes text.old ++ text_of word) }
     ensures read { IsLineOf (text_of word) word }
 {
     a_word_is_read_back(word);
+    push_word_as(text, word, RegisterNames::Numbers)
+}
+
+/// Adds the text of a word as `push_word` does, with registers called by these names. By their numbers
+/// it is the same text.
+#[tactic(auto, unfolding(crate::specs::NamedTexts::text_as), using(crate::proofs::NamedTexts::plain_text))]
+pub fn push_word_as(text: &mut String, word: u32, names: RegisterNames) -> Result<(), AllocError>
+    ensures text { OnOk result
+        (string_bytes text.new ≡ string_bytes text.old ++ text_as names word) }
+    ensures plain { text_as RegisterNames.Numbers word ≡ text_of word }
+{
     if word == 0 {
         return text.push_str("nop");
     }
     match form_of(word) {
-        Some(form) => push_form(text, &form, word),
+        Some(form) => push_form(text, &form, word, names),
         None => push_number(text, word),
     }
 }
 
-fn push_form(text: &mut String, form: &Form, word: u32) -> Result<(), AllocError>
+fn push_form(
+    text: &mut String,
+    form: &Form,
+    word: u32,
+    names: RegisterNames,
+) -> Result<(), AllocError>
     ensures { OnOk result (string_bytes text.new
-        ≡ string_bytes text.old ++ form_text word (plain_form form.now)) }
+        ≡ string_bytes text.old ++ form_as names word (plain_form form.now)) }
 {
     if has_label(form.operands) {
         push_number(text, word)?;
         text.push_str(" # ")?;
     }
-    push_instruction(text, form, word)
+    push_instruction(text, form, word, names)
 }
 
 fn push_number(text: &mut String, word: u32) -> Result<(), AllocError>
@@ -48,14 +66,19 @@ fn push_number(text: &mut String, word: u32) -> Result<(), AllocError>
     push_hex(text, word)
 }
 
-fn push_instruction(text: &mut String, form: &Form, word: u32) -> Result<(), AllocError>
+fn push_instruction(
+    text: &mut String,
+    form: &Form,
+    word: u32,
+    names: RegisterNames,
+) -> Result<(), AllocError>
     ensures { OnOk result (string_bytes text.new
-        ≡ string_bytes text.old ++ instruction_text (in_word word) (plain_form form.now)) }
+        ≡ string_bytes text.old ++ instruction_as names (in_word word) (plain_form form.now)) }
 {
     text.push_str(form.name)?;
     if is_left_out(form.operands, word) {
         Ok(())
     } else {
-        push_operands(text, form.operands, word)
+        push_operands(text, form.operands, word, names)
     }
 }

@@ -3,10 +3,12 @@ ghost use Rattle.std.specs.Prelude.{◌≡◌, ◌++◌, OnOk, map};
 ghost use Rattle.std.specs.List.{list_any};
 ghost use Rattle.std.specs.String.{string_bytes};
 ghost use Rattle.ds_isa.specs.Fields.{in_word};
+ghost use Rattle.ds_listing.specs.NamedTexts.{operand_as, operands_as, others_as};
 ghost use Rattle.ds_listing.specs.Plain.{operand_of};
-ghost use Rattle.ds_listing.specs.Texts.{operand_text, operands_text, others_text, is_left_out, is_label, has_label};
+ghost use Rattle.ds_listing.specs.Texts.{is_left_out, is_label, has_label};
 
-use crate::digits::{push_decimal, push_distance, push_half, push_hex, push_register, push_signed};
+use crate::digits::{push_decimal, push_distance, push_half, push_hex, push_signed};
+use crate::names::{RegisterNames, push_register};
 use std::alloc::AllocError;
 
 /// What stands in an operand's place.
@@ -42,17 +44,16 @@ impl Operand {
         matches!(self, Operand::Branch | Operand::Jump)
     }
 
-    /// Adds what a word has in its place.
-    fn push(self, text: &mut String, word: u32) -> Result<(), AllocError>
+    /// Adds what a word has in its place, with registers called by these names.
+    fn push(self, text: &mut String, word: u32, names: RegisterNames) -> Result<(), AllocError>
         ensures { OnOk result (string_bytes text.new
-            ≡ string_bytes text.old ++ operand_text (in_word word) (operand_of self)) }
+            ≡ string_bytes text.old ++ operand_as names (in_word word) (operand_of self)) }
     {
         match self {
-            Operand::Rs => push_register(text, ds_word::rs(word)),
-            Operand::Rt => push_register(text, ds_word::rt(word)),
-            Operand::Rd | Operand::Link | Operand::System => {
-                push_register(text, ds_word::rd(word))
-            }
+            Operand::Rs => push_register(text, ds_word::rs(word), names),
+            Operand::Rt => push_register(text, ds_word::rt(word), names),
+            Operand::Rd | Operand::Link => push_register(text, ds_word::rd(word), names),
+            Operand::System => push_register(text, ds_word::rd(word), RegisterNames::Numbers),
             Operand::Shamt => push_decimal(text, u32::from(ds_word::shamt(word))),
             Operand::Unsigned => {
                 text.push_str("0x")?;
@@ -68,7 +69,7 @@ impl Operand {
             Operand::Indexed => {
                 push_signed(text, ds_word::imm(word))?;
                 text.push('(')?;
-                push_register(text, ds_word::rs(word))?;
+                push_register(text, ds_word::rs(word), names)?;
                 text.push(')')
             }
         }
@@ -103,27 +104,33 @@ pub(crate) fn push_operands(
     text: &mut String,
     operands: &[Operand],
     word: u32,
+    names: RegisterNames,
 ) -> Result<(), AllocError>
-    ensures { OnOk result (string_bytes text.new
-        ≡ string_bytes text.old ++ operands_text (in_word word) (map operand_of operands.now)) }
+    ensures { OnOk result (string_bytes text.new ≡ string_bytes text.old
+        ++ operands_as names (in_word word) (map operand_of operands.now)) }
 {
     match operands {
         [] => Ok(()),
         [first, others @ ..] => {
             text.push(' ')?;
-            first.push(text, word)?;
-            push_others(text, others, word)
+            first.push(text, word, names)?;
+            push_others(text, others, word, names)
         }
     }
 }
 
-fn push_others(text: &mut String, operands: &[Operand], word: u32) -> Result<(), AllocError>
+fn push_others(
+    text: &mut String,
+    operands: &[Operand],
+    word: u32,
+    names: RegisterNames,
+) -> Result<(), AllocError>
     ensures { OnOk result (string_bytes text.new ≡ string_bytes text.old
-        ++ others_text (in_word word) (map operand_of operands.now)) }
+        ++ others_as names (in_word word) (map operand_of operands.now)) }
 {
     for operand in operands {
         text.push(',')?;
-        operand.push(text, word)?;
+        operand.push(text, word, names)?;
     }
     Ok(())
 }

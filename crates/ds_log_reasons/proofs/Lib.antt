@@ -1,4 +1,4 @@
 pub mod Adding
+pub mod Paging
 pub mod Slots
 pub mod Sources
-pub mod SpotSteps

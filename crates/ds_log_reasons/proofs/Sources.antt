@@ -1,11 +1,11 @@
--- Where a byte stands among sources that are lent.
+-- Sources that are lent, and pages with their lines.
 use Rattle.std.proofs.Common.{◌≡◌, ◌∙◌, refl, sym, ap, ℕ, ◌+◌, List, [], ◌∷◌, Option, Some, None, Bor, map, length, nat_lt}
 use Rattle.std.specs.Prelude.{cond, not, bytes_eq, position, slice_get, option_and_then, option_map}
 use Rattle.std.specs.List.{position_or_len}
 use Rattle.std.proofs.lemmas.Option.{slice_get-map}
 use Rattle.std.proofs.lemmas.List.{length-map}
 use Rattle.ds_check.specs.Starts.{assembled}
-use Rattle.ds_log_reasons.specs.Places.{spot_between, spot_in}
+use Rattle.ds_log_reasons.specs.Places.{lines_between, lines_in}
 use Rattle.ds_check.specs.declared.starts.AssembledSources.{AssembledSources}
 
 abbrev Lent : Type 0
@@ -28,20 +28,20 @@ texts_seen : (o : Option Lent) → option_map (λ (s : List ℕ × List ℕ). s.
 texts_seen None = refl
 texts_seen (Some s) = refl
 
-module _ (a : AssembledSources) (name : List ℕ) (byte : ℕ) (r : Option ℕ) (is : r ≡ position (λ (s : Lent). bytes_eq s.0.now name) a.sources.now) where
+module _ (a : AssembledSources) (name : List ℕ) (r : Option ℕ) (is : r ≡ position (λ (s : Lent). bytes_eq s.0.now name) a.sources.now) where
   at_place : (o : Option ℕ) → r ≡ o
-      → spot_in (assembled a) name byte ≡ option_and_then (λ i. spot_between byte (option_map (λ s. s.1) (slice_get (map seen_of a.sources.now) i)) (slice_get a.images.now i)) o
-  at_place o at = ap (option_and_then (λ (i : ℕ). spot_between byte (option_map (λ s. s.1) (slice_get (map seen_of a.sources.now) i)) (slice_get a.images.now i))) (position_seen name a.sources.now ∙ (sym is ∙ at))
+      → lines_in (assembled a) name ≡ option_and_then (λ i. lines_between (option_map (λ s. s.1) (slice_get (map seen_of a.sources.now) i)) (slice_get a.images.now i)) o
+  at_place o at = ap (option_and_then (λ (i : ℕ). lines_between (option_map (λ s. s.1) (slice_get (map seen_of a.sources.now) i)) (slice_get a.images.now i))) (position_seen name a.sources.now ∙ (sym is ∙ at))
 
   -- there is no source of this name
-  pub no_name : r ≡ None → spot_in (assembled a) name byte ≡ None
+  pub no_name : r ≡ None → lines_in (assembled a) name ≡ None
   no_name none = at_place None none
 
   -- it is that of the text and the image there, where there are both
   pub at_index : (i : ℕ) (text image : Option (List ℕ)) → r ≡ Some i
       → option_map (λ s. s.1.now) (slice_get a.sources.now i) ≡ text → slice_get a.images.now i ≡ image
-      → spot_in (assembled a) name byte ≡ spot_between byte text image
+      → lines_in (assembled a) name ≡ lines_between text image
   at_index i text image at text_is image_is =
       at_place (Some i) at
-      ∙ (ap (λ (x : Option (List ℕ)). spot_between byte x (slice_get a.images.now i)) (ap (option_map (λ s. s.1)) (slice_get-map seen_of a.sources.now i) ∙ (texts_seen (slice_get a.sources.now i) ∙ text_is))
-      ∙ ap (spot_between byte text) image_is)
+      ∙ (ap (λ (x : Option (List ℕ)). lines_between x (slice_get a.images.now i)) (ap (option_map (λ s. s.1)) (slice_get-map seen_of a.sources.now i) ∙ (texts_seen (slice_get a.sources.now i) ∙ text_is))
+      ∙ ap (lines_between text) image_is)

@@ -1,8 +1,10 @@
 -- What is told of a line of the log.
-use Rattle.std.specs.Prelude.{codes, decimal, ℕ, ◌+◌, ◌-◌, ◌*◌, ◌%◌, ◌==◌, nat_lt, Bool, false, not, if◌then◌else◌, List, [], ◌++◌, length, slice_get, Option, Some, None, option_map}
+use Rattle.std.specs.Prelude.{codes, decimal, ℕ, ◌-◌, ◌==◌, nat_lt, Bool, false, not, if◌then◌else◌, List, [], ◌++◌, length, slice_get, Option, Some, None, option_map}
 use Rattle.ds_isa.specs.Instruction.{instruction_of}
 use Rattle.ds_isa.specs.Shapes.{is_branch}
 use Rattle.ds_isa.specs.Uses.{uses}
+use Rattle.ds_isa.specs.declared.instr.Late.{Late}
+use Rattle.ds_listing.specs.Pages.{PagePlaces, place_at, plain_pages}
 use Rattle.ds_listing.specs.Texts.{hex8, text_of}
 use Rattle.ds_policy.specs.declared.access.Rule.{Rule}
 use Rattle.ds_policy.specs.declared.access.Rule.TheVariants.{Number, K, A, I}
@@ -10,18 +12,19 @@ use Rattle.ds_policy.specs.declared.grant.Entry.{Entry}
 use Rattle.ds_policy.specs.declared.grant.Grant.{Grant}
 use Rattle.ds_policy.specs.declared.policy.PolicyPage.{PolicyPage}
 use Rattle.ds_policy.specs.declared.policy.PolicyRule.{PolicyRule}
-use Rattle.ds_policy.specs.declared.policy.Source.{Source}
 use Rattle.ds_policy.specs.Pages.{found, page_address}
 use Rattle.ds_check.specs.Items.{item_place}
-use Rattle.ds_check.specs.Starts.{Assembled, assembled, granted_source}
+use Rattle.ds_check.specs.Starts.{Assembled, assembled}
 use Rattle.ds_check.specs.declared.items.Items.TheVariants.{Rules}
+use Rattle.ds_log.specs.declared.line.Denied.{Denied}
 use Rattle.ds_log_reasons.specs.Nearest.{nearest}
-use Rattle.ds_log_reasons.specs.Places.{Named, Place, spot_in}
+use Rattle.ds_log_reasons.specs.Places.{pages_with}
 use Rattle.ds_log_reasons.specs.Reasons.{reason_of}
-use Rattle.ds_log_reasons.specs.Values.{operands_of, values_text}
+use Rattle.ds_log_reasons.specs.Values.{operands_for, values_text}
 use Rattle.ds_log_reasons.specs.Words.{command_mend, command_words, mend_words, reason_words}
 use Rattle.ds_log_reasons.specs.declared.reason.Reason.{Reason}
 use Rattle.ds_log_reasons.specs.declared.sentences.Denial.{Denial}
+use Rattle.ds_log_reasons.specs.declared.sentences.Known.{Known}
 use Rattle.ds_log_reasons.specs.declared.sentences.Sight.{Sight}
 use Rattle.ds_log_reasons.specs.declared.sentences.Texts.{Texts}
 
@@ -36,59 +39,66 @@ pub record Context : Type 0 where
 abbrev pub context : Texts → Context
 context t = record { text = t.text.now; pages = t.policy.now.pages; rules = t.policy.now.rules; sources = assembled t.sources }
 
--- what is seen of a process before its unit: where that is, the word of the instruction that was denied, the registers and the entries
+-- where the bytes of the pages stand in their sources, in place of these
+pub record Placed : Type 0 where
+  pub text : List ℕ
+  pub pages : List PolicyPage
+  pub rules : List PolicyRule
+  pub places : List (Option PagePlaces)
+
+abbrev pub placed : Context → Placed
+placed x = record { text = x.text; pages = x.pages; rules = x.rules; places = pages_with x.sources x.pages }
+
+-- the same of the code's
+abbrev pub known_placed : Known → Placed
+known_placed k = record { text = k.text.now; pages = k.policy.now.pages; rules = k.policy.now.rules; places = plain_pages k.pages.now }
+
+-- what is seen of a process whose unit was stopped: where the unit began, the word of the instruction that was denied, the registers before it and the one whose load is late then, the entries, and what a call was answered
 pub record Sighted : Type 0 where
   pub unit : ℕ
   pub word : Option ℕ
   pub general : List ℕ
+  pub late : Option Late
   pub entries : List Entry
+  pub answer : ℕ
 
 -- the same of the code's
 abbrev pub sighted : Sight → Sighted
-sighted s = record { unit = s.unit; word = s.word; general = s.general; entries = s.entries.now }
+sighted s = record { unit = s.unit; word = s.word; general = s.general; late = s.late; entries = s.entries.now; answer = s.answer }
 
--- how far a byte is from its label
-abbrev pub offset_text : ℕ → List ℕ
-offset_text offset = if offset == 0 then [] else codes "+" ++ decimal offset
+-- which page is granted
+abbrev pub granted_page : Option Grant → Option ℕ
+granted_page None = None
+granted_page (Some g) = g.page
 
--- the label before a byte, if there is one
-abbrev pub label_text : ℕ → Option Named → List ℕ
-label_text byte None = []
-label_text byte (Some l) = codes " " ++ l.name ++ offset_text (byte - l.place)
-
--- the place of a byte in the source of a name; where there is none, the address
-abbrev pub spot_text : List ℕ → ℕ → ℕ → Option Place → List ℕ
-spot_text name byte pc None = hex8 pc
-spot_text name byte pc (Some place) = name ++ codes ":" ++ decimal place.line ++ label_text byte place.label
-
--- an address in a part of a source
-abbrev pub part_text : Assembled → ℕ → Option Source → List ℕ
-part_text a pc None = hex8 pc
-part_text a pc (Some s) = let byte : ℕ = 4096 * s.part + pc % 4096 in spot_text s.name byte pc (spot_in a s.name byte)
+-- a place in a source; where it is none, the address
+abbrev pub or_address : ℕ → List ℕ → List ℕ
+or_address pc [] = hex8 pc
+or_address pc place = place
 
 -- where an address of a process with these entries stands in its source; where it stands in none, the address
-unfoldable pub at_text : Context → List Entry → ℕ → List ℕ
-at_text x es pc = part_text x.sources pc (granted_source x.pages (found es (page_address pc)))
+unfoldable pub at_text : Placed → List Entry → ℕ → List ℕ
+at_text x es pc = or_address pc (place_at x.places (granted_page (found es (page_address pc))) pc)
 
 -- the branch in whose slot an instruction is
-unfoldable pub slot_text : Context → List Entry → ℕ → Bool → List ℕ
+unfoldable pub slot_text : Placed → List Entry → ℕ → Bool → List ℕ
 slot_text x es unit slot = if slot then codes ", in the slot of " ++ at_text x es unit else []
 
 -- an instruction with what it read
-unfoldable pub did_text : Option ℕ → List ℕ → ℕ → Bool → List ℕ
-did_text None general addr slot = codes ": no instruction was fetched"
-did_text (Some w) general addr slot = codes ": " ++ text_of w ++ values_text general addr slot (operands_of (instruction_of w))
+unfoldable pub did_text : Denied → Option ℕ → List ℕ → Option Late → List ℕ
+did_text kind None general late = codes ": no instruction was fetched"
+did_text kind (Some w) general late = codes ": " ++ text_of w ++ values_text general late (operands_for kind (instruction_of w))
 
 -- which process it was
 unfoldable pub process_text : ℕ → List ℕ
 process_text process = codes "    process " ++ decimal process ++ codes " at "
 
 -- the line that says what the process did
-unfoldable pub what_text : Context → Denial → Sighted → List ℕ
+unfoldable pub what_text : Placed → Denial → Sighted → List ℕ
 what_text x d s =
     let slot : Bool = not (s.unit == d.pc) in
     process_text d.process ++ at_text x s.entries d.pc ++ slot_text x s.entries s.unit slot
-    ++ did_text s.word s.general d.addr slot ++ codes "\n"
+    ++ did_text d.kind s.word s.general s.late ++ codes "\n"
 
 -- the line of a policy's text in which the rule of a number begins
 abbrev pub rule_line : List ℕ → ℕ → Option ℕ
@@ -126,11 +136,11 @@ giver_text giver = if giver == 0 then [] else codes ", given by process " ++ dec
 
 -- that there is no rule, and no entry
 unfoldable pub alone_text : List ℕ
-alone_text = codes "no rule, there being no entry at all"
+alone_text = codes "no rule; the process has no entry at all"
 
 -- that there is no rule, and the nearest entry
 unfoldable pub near_text : List ℕ → Entry → List ℕ
-near_text policy e = codes "no rule, the nearest entry being at " ++ (hex8 e.address ++ (codes " by " ++ number_text policy e.grant.rule))
+near_text policy e = codes "no rule; the nearest entry is at " ++ (hex8 e.address ++ (codes ", by " ++ number_text policy e.grant.rule))
 
 abbrev pub nearest_by : List ℕ → Option Entry → List ℕ
 nearest_by policy None = alone_text
@@ -140,19 +150,19 @@ unfoldable pub nearest_text : List ℕ → ℕ → List Entry → List ℕ
 nearest_text policy address es = nearest_by policy (nearest address es)
 
 -- which entry decided, at the page of an address
-unfoldable pub decided_text : Context → List Entry → ℕ → Option Grant → List ℕ
+unfoldable pub decided_text : Placed → List Entry → ℕ → Option Grant → List ℕ
 decided_text x es page None = nearest_text x.text page es
 decided_text x es page (Some g) = number_text x.text g.rule ++ page_text x.pages g.page ++ giver_text g.giver
 
 -- by what rule: the entry's own, or the processor's
-abbrev pub by_rule : Context → List Entry → ℕ → Rule → List ℕ
+abbrev pub by_rule : Placed → List Entry → ℕ → Rule → List ℕ
 by_rule x es page (Number n) = decided_text x es page (found es page)
 by_rule x es page K = codes "the processor"
 by_rule x es page A = codes "the processor"
 by_rule x es page I = codes "the processor"
 
 -- the line that says what decided, and why
-unfoldable pub by_text : Context → List Entry → Denial → Reason → List ℕ
+unfoldable pub by_text : Placed → List Entry → Denial → Reason → List ℕ
 by_text x es d reason = codes "    by " ++ by_rule x es (page_address d.addr) d.rule ++ codes ": " ++ reason_words reason ++ codes "\n"
 
 -- what the policy's rule of an entry's number says, if there is one
@@ -169,14 +179,14 @@ word_branch (Some w) = is_branch (uses (instruction_of w)).shape
 abbrev pub reason_for : List PolicyRule → Denial → Sighted → Reason
 reason_for rules d s =
     let g : Option Grant = found s.entries (page_address d.addr) in
-    reason_of d.kind d.rule d.code g (said_of rules g) (word_branch s.word)
+    reason_of d.kind d.rule d.code s.answer g (said_of rules g) (word_branch s.word)
 
 -- the line that says how something is mended
 unfoldable pub mend_line : List ℕ → List ℕ
 mend_line words = codes "    to mend: " ++ words ++ codes "\n"
 
 -- what is told of a denial: what the process did, what decided, and how it is mended
-unfoldable pub denial_text : Context → Denial → Sighted → List ℕ
+unfoldable pub denial_text : Placed → Denial → Sighted → List ℕ
 denial_text x d s = what_text x d s ++ by_text x s.entries d (reason_for x.rules d s) ++ mend_line (mend_words (reason_for x.rules d s))
 
 -- the line that says what the number of a command's refusal means

@@ -1,59 +1,66 @@
 -- The values of the registers that an instruction reads, as far as they tell why it was denied.
-use Rattle.std.specs.Prelude.{ℕ, ◌%◌, ◌==◌, ◌&&◌, Bool, not, codes, decimal, if◌then◌else◌, List, [], ◌++◌, slice_index}
-use Rattle.ds_word.specs.Word.{minus, sign_extended}
+use Rattle.std.specs.Prelude.{ℕ, ◌%◌, ◌==◌, Bool, false, codes, decimal, if◌then◌else◌, List, [], ◌++◌, slice_index, Option, Some, None}
 use Rattle.ds_isa.specs.declared.instr.Instr.{Instr}
 use Rattle.ds_isa.specs.declared.instr.Instr.TheVariants as instr
+use Rattle.ds_isa.specs.declared.instr.Late.{Late}
+use Rattle.ds_isa.specs.Registers.{late_or}
 use Rattle.ds_listing.specs.Texts.{hex8}
+use Rattle.ds_log.specs.declared.line.Denied.{Denied}
+use Rattle.ds_log.specs.declared.line.Denied.TheVariants as denied
 use Rattle.ds_log_reasons.specs.declared.values.Operands.{Operands}
 use Rattle.ds_log_reasons.specs.declared.values.Operands.TheVariants as takes
 
 -- what an instruction takes its address from, or what it adds or subtracts
 abbrev pub operands_of : Instr → Operands
-operands_of (instr.Lb rt rs i) = takes.Base rs i
-operands_of (instr.Lh rt rs i) = takes.Base rs i
-operands_of (instr.Lwl rt rs i) = takes.Base rs i
-operands_of (instr.Lw rt rs i) = takes.Base rs i
-operands_of (instr.Lbu rt rs i) = takes.Base rs i
-operands_of (instr.Lhu rt rs i) = takes.Base rs i
-operands_of (instr.Lwr rt rs i) = takes.Base rs i
-operands_of (instr.Sb rt rs i) = takes.Base rs i
-operands_of (instr.Sh rt rs i) = takes.Base rs i
-operands_of (instr.Swl rt rs i) = takes.Base rs i
-operands_of (instr.Sw rt rs i) = takes.Base rs i
-operands_of (instr.Swr rt rs i) = takes.Base rs i
+operands_of (instr.Lb rt rs i) = takes.One rs
+operands_of (instr.Lh rt rs i) = takes.One rs
+operands_of (instr.Lwl rt rs i) = takes.One rs
+operands_of (instr.Lw rt rs i) = takes.One rs
+operands_of (instr.Lbu rt rs i) = takes.One rs
+operands_of (instr.Lhu rt rs i) = takes.One rs
+operands_of (instr.Lwr rt rs i) = takes.One rs
+operands_of (instr.Sb rt rs i) = takes.One rs
+operands_of (instr.Sh rt rs i) = takes.One rs
+operands_of (instr.Swl rt rs i) = takes.One rs
+operands_of (instr.Sw rt rs i) = takes.One rs
+operands_of (instr.Swr rt rs i) = takes.One rs
 operands_of (instr.Add rd rs rt) = takes.Two rs rt
 operands_of (instr.Sub rd rs rt) = takes.Two rs rt
 operands_of (instr.Addi rt rs i) = takes.One rs
-operands_of (instr.Syscall code) = takes.Call
 operands_of other = takes.Nothing
 
--- what was in the register from which an address came, by the half that was added
-abbrev pub base_of : ℕ → ℕ → ℕ
-base_of address offset = minus address (sign_extended 16 offset)
+-- where it was denied so: a call that was refused takes the registers of a give
+abbrev pub operands_for : Denied → Instr → Operands
+operands_for denied.Give i = takes.Call
+operands_for other i = operands_of i
 
 -- what a register holds
 abbrev pub held : List ℕ → ℕ → ℕ
 held general register = slice_index general (register % 32)
 
--- a register with its value, after what comes before it
-abbrev pub value_text : List ℕ → ℕ → ℕ → List ℕ
-value_text before register value = before ++ decimal register ++ codes " " ++ hex8 value
+-- what an operand reads: its value from before its load, if that is late
+abbrev pub reads : List ℕ → Option Late → ℕ → ℕ
+reads general late register = late_or late (register % 32) (held general register)
 
--- a register has another value than was read: its load was late. Registers 26 and 27 may be lost at any time
-abbrev pub is_late : List ℕ → ℕ → ℕ → Bool
-is_late general register value = not (register == 26) && (not (register == 27) && not (held general register == value))
+-- the load of a register is late
+abbrev pub is_late : Option Late → ℕ → Bool
+is_late None register = false
+is_late (Some l) register = l.register == register % 32
 
--- that a load was late, where it was
+-- that a value is from before a load, where it is
 abbrev pub late_text : Bool → List ℕ
-late_text late = if late then codes ", since its load was late" else []
+late_text late = if late then codes " (from before its load)" else []
 
--- what an instruction read that came to an address, with these registers before its unit, and by whether it was in a slot
-unfoldable pub values_text : List ℕ → ℕ → Bool → Operands → List ℕ
-values_text general address slot (takes.Base r offset) =
-    value_text (codes ", with $") r (base_of address offset) ++ late_text (not slot && is_late general r (base_of address offset))
-values_text general address slot (takes.Two a b) = value_text (codes ", with $") a (held general a) ++ value_text (codes " and $") b (held general b)
-values_text general address slot (takes.One r) = value_text (codes ", with $") r (held general r)
-values_text general address slot takes.Call =
-    value_text (codes ", with $") 4 (held general 4) ++ value_text (codes ", $") 5 (held general 5)
-    ++ value_text (codes ", $") 6 (held general 6) ++ value_text (codes " and $") 7 (held general 7)
-values_text general address slot takes.Nothing = []
+-- a register with what it reads, after what comes before it
+unfoldable pub value_text : List ℕ → List ℕ → Option Late → ℕ → List ℕ
+value_text before general late register =
+    before ++ decimal register ++ codes " " ++ hex8 (reads general late register) ++ late_text (is_late late register)
+
+-- what an instruction reads of these registers, of which the load of one may be late; a call finishes that load first
+unfoldable pub values_text : List ℕ → Option Late → Operands → List ℕ
+values_text general late (takes.One r) = value_text (codes ", with $") general late r
+values_text general late (takes.Two a b) = value_text (codes ", with $") general late a ++ value_text (codes " and $") general late b
+values_text general late takes.Call =
+    value_text (codes ", with $") general None 4 ++ value_text (codes ", $") general None 5
+    ++ value_text (codes ", $") general None 6 ++ value_text (codes " and $") general None 7
+values_text general late takes.Nothing = []

@@ -1,108 +1,21 @@
-//! Where an instruction stands in its source: its line, and the label before it.
-ghost use Rattle.std.specs.Prelude.{◌≡◌, ◌≤◌, ◌<◌, ◌+◌, ◌*◌, None, bytes_eq, length, map, option_map, position, slice_get, take, drop};
-ghost use Rattle.ds_check.specs.Starts.{assembled, granted_source};
+//! The pages of a policy, with the lines of the sources whose parts they have.
+ghost use Rattle.std.specs.Prelude.{◌≡◌, IfOk, Some, bytes_eq, map, option_map, position, slice_get};
+ghost use Rattle.ds_check.specs.Starts.{assembled};
 ghost use Rattle.ds_listing.specs.Listing.{rows_of};
-ghost use Rattle.ds_log_reasons.specs.Places.{label_after, seen, seen_label, spot_after, spot_in};
+ghost use Rattle.ds_listing.specs.Pages.{plain_page, plain_pages};
+ghost use Rattle.ds_listing.specs.Places.{plain_place, places_of};
+ghost use Rattle.ds_log_reasons.specs.Places.{lines_between, lines_in, page_with, pages_with};
 
-use ds_asm::{Image, first_line, source_line};
+use ds_asm::Image;
 use ds_check::AssembledSources;
-use ds_policy::{Grant, PolicyPage, Source};
+use ds_listing::{LinePlace, PageLines, line_places};
+use ds_policy::{PolicyPage, Source};
+use std::alloc::{AllocError, Global};
 
-/// A label, and the place in the image at which it stands.
-#[derive(Clone, Copy, Debug, PartialEq, Eq)]
-pub(crate) struct Label<'a> {
-    pub(crate) name: &'a [u8],
-    pub(crate) place: u32,
-}
-
-/// A place of a source.
-#[derive(Clone, Copy, Debug, PartialEq, Eq)]
-pub(crate) struct Spot<'a> {
-    /// The number of its line, from 1.
-    pub(crate) line: u64,
-    /// The last label that stands there or before.
-    pub(crate) label: Option<Label<'a>>,
-}
-
-/// The line of a source in which a byte of its image lies, and the last label up to that line.
-fn spot_between<'a>(text: &'a [u8], image: &[u8], byte: u32) -> Option<Spot<'a>>
-    requires { length image.now ≤ 65536 }
-    ensures { option_map seen result ≡ spot_after byte None (rows_of text.entry.now image.now) }
+fn place_of(sources: &[(&str, &[u8])], name: &str) -> Option<usize>
+    ensures { result ≡ position (λ s. bytes_eq s.0.now name.now) sources.now }
 {
-    let mut label = None;
-    let mut line = 0u64;
-    let mut place = 0u32;
-    let mut rest = text;
-    let mut left = image;
-    while !rest.is_empty() {
-        let (front, behind) = first_line(rest);
-        let said = source_line(front);
-        let (bytes, further) = cut(left, said.size);
-        line += 1;
-        label = label_after(label, place, said.label);
-        place += bytes.len() as u32;
-        if byte < place {
-            return Some(Spot { line, label });
-        }
-        left = further;
-        rest = behind;
-    }
-    None
-}
-
-/// The label of a line at this place, or else the one before.
-fn label_after<'a>(
-    before: Option<Label<'a>>,
-    place: u32,
-    name: Option<&'a [u8]>,
-) -> Option<Label<'a>>
-    ensures { option_map seen_label result ≡ label_after
-        (option_map seen_label before.entry) place (option_map (λ t. t.now) name.entry) }
-{
-    match name {
-        Some(name) => Some(Label { name, place }),
-        None => before,
-    }
-}
-
-/// So many bytes, or all where they are fewer, and what stands after them.
-fn cut(bytes: &[u8], size: u64) -> (&[u8], &[u8])
-    ensures front { result.0.now ≡ take size bytes.now }
-    ensures behind { result.1.now ≡ drop size bytes.now }
-{
-    if size < bytes.len() as u64 {
-        bytes.split_at(size as usize)
-    } else {
-        (bytes, &[])
-    }
-}
-
-/// The source whose part lies where this is granted.
-pub(crate) fn granted_source(pages: &[PolicyPage], grant: Option<Grant>) -> Option<&Source>
-    ensures { option_map (λ s. s.now) result ≡ granted_source pages.entry.now grant }
-{
-    let page = grant?.page?;
-    match pages.get(page as usize) {
-        Some(page) => page.source.as_ref(),
-        None => None,
-    }
-}
-
-/// Where a byte of the image of the source of this name stands.
-pub(crate) fn spot_in<'a>(sources: AssembledSources<'a>, name: &str, byte: u32) -> Option<Spot<'a>>
-    ensures { option_map seen result ≡ spot_in (assembled sources.entry) name.now byte }
-{
-    let index = place_of(sources.sources, name)?;
-    let text = text_at(sources.sources, index)?;
-    let image = image_at(sources.images, index)?;
-    spot_of(text, image, byte)
-}
-
-fn spot_of<'a>(text: &'a [u8], image: &Image, byte: u32) -> Option<Spot<'a>>
-    ensures { option_map seen result ≡ spot_after byte None (rows_of text.entry.now image.now) }
-{
-    prove!(image.len() <= 65536);
-    spot_between(text, image.bytes(), byte)
+    sources.iter().position(|source| source.0 == name)
 }
 
 fn text_at<'a>(sources: &[(&str, &'a [u8])], index: usize) -> Option<&'a [u8]>
@@ -121,8 +34,94 @@ fn image_at(images: &[Image], index: usize) -> Option<&Image>
     images.get(index)
 }
 
-fn place_of(sources: &[(&str, &[u8])], name: &str) -> Option<usize>
-    ensures { result ≡ position (λ s. bytes_eq s.0.now name.now) sources.now }
+/// The lines of a text with an image, where both are there.
+fn lines_between<'a>(
+    alloc: Global,
+    text: Option<&'a [u8]>,
+    image: Option<&Image>,
+) -> Result<Option<Vec<LinePlace<'a>>>, AllocError>
+    ensures { IfOk result (λ lines. option_map (λ v. map plain_place v.items) lines
+        ≡ lines_between (option_map (λ t. t.now) text.entry)
+        (option_map (λ i. i.now) image.entry)) }
 {
-    sources.iter().position(|source| source.0 == name)
+    match text {
+        Some(text) => match image {
+            Some(image) => Ok(Some(line_places(alloc, text, image)?)),
+            None => Ok(None),
+        },
+        None => Ok(None),
+    }
+}
+
+/// The lines of the source of this name, where there is one.
+#[tactic(auto, using(crate::proofs::Sources::no_name, crate::proofs::Sources::at_index))]
+fn lines_in<'a>(
+    alloc: Global,
+    sources: AssembledSources<'a>,
+    name: &str,
+) -> Result<Option<Vec<LinePlace<'a>>>, AllocError>
+    ensures { IfOk result (λ lines. option_map (λ v. map plain_place v.items) lines
+        ≡ lines_in (assembled sources.entry) name.now) }
+{
+    match place_of(sources.sources, name) {
+        Some(index) => lines_between(
+            alloc,
+            text_at(sources.sources, index),
+            image_at(sources.images, index),
+        ),
+        None => Ok(None),
+    }
+}
+
+/// A part of a source, with the lines of that.
+fn part_with<'a>(
+    alloc: Global,
+    sources: AssembledSources<'a>,
+    source: &'a Source,
+) -> Result<Option<PageLines<'a>>, AllocError>
+    ensures { IfOk result (λ page. option_map plain_page page
+        ≡ page_with (assembled sources.entry) (Some source.entry.now)) }
+{
+    let name = source.name.as_str();
+    match lines_in(alloc, sources, name)? {
+        Some(lines) => Ok(Some(PageLines {
+            source: name,
+            part: source.part,
+            lines,
+        })),
+        None => Ok(None),
+    }
+}
+
+/// A page, with the lines of its source, where it has one.
+fn page_with<'a>(
+    alloc: Global,
+    sources: AssembledSources<'a>,
+    page: &'a PolicyPage,
+) -> Result<Option<PageLines<'a>>, AllocError>
+    ensures { IfOk result (λ placed. option_map plain_page placed
+        ≡ page_with (assembled sources.entry) page.entry.now.source) }
+{
+    match &page.source {
+        Some(source) => part_with(alloc, sources, source),
+        None => Ok(None),
+    }
+}
+
+/// The pages of a policy with the lines of their sources. A page without a source has none, and so has
+/// one whose source is not among these.
+pub fn pages_with<'a>(
+    alloc: Global,
+    sources: AssembledSources<'a>,
+    pages: &'a [PolicyPage],
+) -> Result<Vec<Option<PageLines<'a>>>, AllocError>
+    ensures { IfOk result (λ placed. plain_pages placed.items
+        ≡ pages_with (assembled sources.entry) pages.entry.now) }
+{
+    let mut placed = Vec::new(alloc);
+    for page in pages {
+        let lines = page_with(alloc, sources, page)?;
+        placed.push(lines)?;
+    }
+    Ok(placed)
 }

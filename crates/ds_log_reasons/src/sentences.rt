@@ -1,19 +1,18 @@
 //! What is told of a line of the log: what the process did, what decided, and how it is mended.
 ghost use Rattle.std.specs.Prelude.{◌≡◌, ◌≤◌, ◌-◌, ◌++◌, ◌==◌, not, OnOk, codes, decimal, length, map, option_map, slice_get};
 ghost use Rattle.ds_policy.specs.Pages.{found};
+ghost use Rattle.ds_listing.specs.Pages.{place_at, plain_pages};
 ghost use Rattle.ds_listing.specs.Texts.{text_of};
-ghost use Rattle.ds_log_reasons.specs.Places.{seen, seen_label};
-ghost use Rattle.ds_log_reasons.specs.Sentences.{alone_text, at_text, by_text, command_text, context, decided_text, denial_text, did_text, giver_text, label_text, line_text, meaning_line, mend_line, name_text, near_text, nearest_by, nearest_text, number_text, offset_text, page_text, process_text, reason_for, refused_text, rule_line, rule_text, said_of, sighted, slot_text, spot_text, what_text, word_branch};
+ghost use Rattle.ds_log_reasons.specs.Sentences.{alone_text, at_text, by_text, command_text, decided_text, denial_text, did_text, giver_text, granted_page, known_placed, line_text, meaning_line, mend_line, name_text, near_text, nearest_by, nearest_text, number_text, or_address, page_text, process_text, reason_for, refused_text, rule_line, rule_text, said_of, sighted, slot_text, what_text, word_branch};
 
 use crate::digits::{push_decimal, push_hex};
 use crate::entries::{grant_at, nearest};
-use crate::places::{Label, Spot, granted_source, spot_in};
 use crate::reason::{Reason, reason_of};
-use crate::values::{operands_of, push_values};
+use crate::values::{operands_for, push_values};
 use crate::words::{command_mend, command_words, mend_words, reason_words};
 use ds_check::{AssembledSources, Items, item_place};
-use ds_isa::{decode, is_branch};
-use ds_listing::push_word;
+use ds_isa::{Late, decode, is_branch};
+use ds_listing::{PageLines, push_address_place, push_word};
 use ds_log::Denied;
 use ds_policy::{Entry, Grant, Policy, PolicyPage, PolicyRule, Rule};
 use std::alloc::{AllocError, Global};
@@ -28,6 +27,17 @@ pub struct Texts<'a> {
     pub sources: AssembledSources<'a>,
 }
 
+/// The same, where the lines of the sources have been found.
+#[derive(Clone, Copy)]
+pub struct Known<'a> {
+    /// The text of the policy.
+    pub text: &'a [u8],
+    /// The policy that was read from it.
+    pub policy: &'a Policy,
+    /// Its pages, with the lines of their sources.
+    pub pages: &'a [Option<PageLines<'a>>],
+}
+
 /// What a line of the log says of a denial, but for its time.
 #[derive(Clone, Copy, Debug, PartialEq, Eq)]
 pub struct Denial {
@@ -39,15 +49,21 @@ pub struct Denial {
     pub code: u32,
 }
 
-/// What a station shows of a process before its unit.
+/// What is seen of a process whose unit was stopped.
 #[derive(Clone, Copy)]
 pub struct Sight<'a> {
     /// The address of the unit.
     pub unit: u32,
     /// The word of the instruction that was denied, where the process may fetch it.
     pub word: Option<u32>,
+    /// The registers before that instruction.
     pub general: [u32; 32],
+    /// The register whose load is late then.
+    pub late: Option<Late>,
+    /// The entries of the process when the unit began.
     pub entries: &'a [Entry],
+    /// Register 2 after the unit: what a call was answered.
+    pub answer: u32,
 }
 
 /// Adds bytes.
@@ -64,56 +80,31 @@ fn push_short(sheet: &mut Vec<u8>, number: u32) -> Result<(), AllocError>
     push_decimal(sheet, u64::from(number))
 }
 
-/// Adds how far a byte is from its label.
-fn push_offset(sheet: &mut Vec<u8>, offset: u32) -> Result<(), AllocError>
-    ensures { OnOk result (sheet.new.items ≡ sheet.old.items ++ offset_text offset) }
+/// Which page is granted.
+fn granted_page(granted: Option<Grant>) -> Option<u32>
+    ensures { result ≡ granted_page granted }
 {
-    if offset == 0 {
-        return Ok(());
-    }
-    sheet.extend_from_slice(b"+")?;
-    push_short(sheet, offset)
+    granted?.page
 }
 
-/// Adds the label before a byte, if there is one.
-fn push_label<'a>(
+/// Adds where an address within the page of this number stands in its source; where it stands in none,
+/// the address.
+#[tactic(auto, using(crate::proofs::Slots::no_place, crate::proofs::Slots::some_place))]
+fn push_place(
     sheet: &mut Vec<u8>,
-    byte: u32,
-    label: Option<Label<'a>>,
-) -> Result<(), AllocError>
-    ensures { OnOk result (sheet.new.items
-        ≡ sheet.old.items ++ label_text byte (option_map seen_label label.entry)) }
-{
-    match label {
-        Some(label) => {
-            sheet.extend_from_slice(b" ")?;
-            sheet.extend_from_slice(label.name)?;
-            push_offset(sheet, byte.saturating_sub(label.place))
-        }
-        None => Ok(()),
-    }
-}
-
-/// Adds the place of a byte in the source of this name; where there is none, the address.
-fn push_spot<'a>(
-    sheet: &mut Vec<u8>,
-    name: &str,
-    byte: u32,
-    spot: Option<Spot<'a>>,
+    pages: &[Option<PageLines<'_>>],
+    page: Option<u32>,
     pc: u32,
 ) -> Result<(), AllocError>
     ensures { OnOk result (sheet.new.items
-        ≡ sheet.old.items ++ spot_text name.now byte pc (option_map seen spot.entry)) }
+        ≡ sheet.old.items ++ or_address pc (place_at (plain_pages pages.now) page pc)) }
 {
-    match spot {
-        Some(spot) => {
-            sheet.extend_from_slice(name.as_bytes())?;
-            sheet.extend_from_slice(b":")?;
-            push_decimal(sheet, spot.line)?;
-            push_label(sheet, byte, spot.label)
-        }
-        None => push_hex(sheet, pc),
+    let before = sheet.len();
+    push_address_place(sheet, pages, page, pc)?;
+    if sheet.len() == before {
+        return push_hex(sheet, pc);
     }
+    Ok(())
 }
 
 /// Adds where an address of a process with these entries stands in its source; where it stands in
@@ -121,39 +112,32 @@ fn push_spot<'a>(
 #[tactic(auto, unfolding(crate::specs::Sentences::at_text))]
 fn push_at<'a>(
     sheet: &mut Vec<u8>,
-    texts: Texts<'a>,
+    known: Known<'a>,
     entries: &[Entry],
     pc: u32,
 ) -> Result<(), AllocError>
     ensures { OnOk result (sheet.new.items
-        ≡ sheet.old.items ++ at_text (context texts.entry) entries.now pc) }
+        ≡ sheet.old.items ++ at_text (known_placed known.entry) entries.now pc) }
 {
-    let within = pc % 4096;
-    match granted_source(texts.policy.pages(), grant_at(entries, pc - within)) {
-        Some(source) => {
-            let name = source.name.as_str();
-            let byte = 4096 * u32::from(source.part) + within;
-            push_spot(sheet, name, byte, spot_in(texts.sources, name, byte), pc)
-        }
-        None => push_hex(sheet, pc),
-    }
+    let page = granted_page(grant_at(entries, pc - pc % 4096));
+    push_place(sheet, known.pages, page, pc)
 }
 
 /// Adds the slot's branch, where an instruction is not that of its unit.
 #[tactic(auto, unfolding(crate::specs::Sentences::slot_text))]
 fn push_slot<'a>(
     sheet: &mut Vec<u8>,
-    texts: Texts<'a>,
+    known: Known<'a>,
     entries: &[Entry],
     unit: u32,
     slot: bool,
 ) -> Result<(), AllocError>
     ensures { OnOk result (sheet.new.items
-        ≡ sheet.old.items ++ slot_text (context texts.entry) entries.now unit slot) }
+        ≡ sheet.old.items ++ slot_text (known_placed known.entry) entries.now unit slot) }
 {
     if slot {
         sheet.extend_from_slice(b", in the slot of ")?;
-        push_at(sheet, texts, entries, unit)
+        push_at(sheet, known, entries, unit)
     } else {
         Ok(())
     }
@@ -173,19 +157,19 @@ fn push_text(sheet: &mut Vec<u8>, alloc: Global, word: u32) -> Result<(), AllocE
 fn push_did(
     sheet: &mut Vec<u8>,
     alloc: Global,
+    kind: Denied,
     word: Option<u32>,
     general: &[u32; 32],
-    addr: u32,
-    slot: bool,
+    late: Option<Late>,
 ) -> Result<(), AllocError>
     ensures { OnOk result
-        (sheet.new.items ≡ sheet.old.items ++ did_text word general.now addr slot) }
+        (sheet.new.items ≡ sheet.old.items ++ did_text kind word general.now late) }
 {
     match word {
         Some(word) => {
             sheet.extend_from_slice(b": ")?;
             push_text(sheet, alloc, word)?;
-            push_values(sheet, general, addr, slot, operands_of(&decode(word)))
+            push_values(sheet, general, late, operands_for(kind, &decode(word)))
         }
         None => sheet.extend_from_slice(b": no instruction was fetched"),
     }
@@ -206,18 +190,25 @@ fn push_process(sheet: &mut Vec<u8>, process: u32) -> Result<(), AllocError>
 fn push_what<'a>(
     sheet: &mut Vec<u8>,
     alloc: Global,
-    texts: Texts<'a>,
+    known: Known<'a>,
     denial: Denial,
     sight: Sight<'a>,
 ) -> Result<(), AllocError>
     ensures { OnOk result (sheet.new.items
-        ≡ sheet.old.items ++ what_text (context texts.entry) denial (sighted sight.entry)) }
+        ≡ sheet.old.items ++ what_text (known_placed known.entry) denial (sighted sight.entry)) }
 {
     let slot = sight.unit != denial.pc;
     push_process(sheet, denial.process)?;
-    push_at(sheet, texts, sight.entries, denial.pc)?;
-    push_slot(sheet, texts, sight.entries, sight.unit, slot)?;
-    push_did(sheet, alloc, sight.word, &sight.general, denial.addr, slot)?;
+    push_at(sheet, known, sight.entries, denial.pc)?;
+    push_slot(sheet, known, sight.entries, sight.unit, slot)?;
+    push_did(
+        sheet,
+        alloc,
+        denial.kind,
+        sight.word,
+        &sight.general,
+        sight.late,
+    )?;
     sheet.extend_from_slice(b"\n")
 }
 
@@ -344,9 +335,9 @@ fn push_neighbour(
 fn push_near(sheet: &mut Vec<u8>, policy: &[u8], entry: Entry) -> Result<(), AllocError>
     ensures { OnOk result (sheet.new.items ≡ sheet.old.items ++ near_text policy.now entry) }
 {
-    push_bytes(sheet, b"no rule, the nearest entry being at ")?;
+    push_bytes(sheet, b"no rule; the nearest entry is at ")?;
     push_hex(sheet, entry.address)?;
-    push_bytes(sheet, b" by ")?;
+    push_bytes(sheet, b", by ")?;
     push_number(sheet, policy, entry.grant.rule)
 }
 
@@ -354,28 +345,28 @@ fn push_near(sheet: &mut Vec<u8>, policy: &[u8], entry: Entry) -> Result<(), All
 fn push_alone(sheet: &mut Vec<u8>) -> Result<(), AllocError>
     ensures { OnOk result (sheet.new.items ≡ sheet.old.items ++ alone_text) }
 {
-    push_bytes(sheet, b"no rule, there being no entry at all")
+    push_bytes(sheet, b"no rule; the process has no entry at all")
 }
 
 /// Adds which entry decided, at the page of an address.
 #[tactic(auto, unfolding(crate::specs::Sentences::decided_text))]
 fn push_decided<'a>(
     sheet: &mut Vec<u8>,
-    texts: Texts<'a>,
+    known: Known<'a>,
     entries: &[Entry],
     page: u32,
     granted: Option<Grant>,
 ) -> Result<(), AllocError>
     ensures { OnOk result (sheet.new.items
-        ≡ sheet.old.items ++ decided_text (context texts.entry) entries.now page granted) }
+        ≡ sheet.old.items ++ decided_text (known_placed known.entry) entries.now page granted) }
 {
     match granted {
         Some(grant) => {
-            push_number(sheet, texts.text, grant.rule)?;
-            push_page(sheet, texts.policy.pages(), grant.page)?;
+            push_number(sheet, known.text, grant.rule)?;
+            push_page(sheet, known.policy.pages(), grant.page)?;
             push_giver(sheet, grant.giver)
         }
-        None => push_nearest(sheet, texts.text, entries, page),
+        None => push_nearest(sheet, known.text, entries, page),
     }
 }
 
@@ -383,18 +374,18 @@ fn push_decided<'a>(
 #[tactic(auto, unfolding(crate::specs::Sentences::by_text))]
 fn push_by<'a>(
     sheet: &mut Vec<u8>,
-    texts: Texts<'a>,
+    known: Known<'a>,
     entries: &[Entry],
     denial: Denial,
     reason: Reason,
 ) -> Result<(), AllocError>
     ensures { OnOk result (sheet.new.items
-        ≡ sheet.old.items ++ by_text (context texts.entry) entries.now denial reason) }
+        ≡ sheet.old.items ++ by_text (known_placed known.entry) entries.now denial reason) }
 {
     let page = denial.addr - denial.addr % 4096;
     sheet.extend_from_slice(b"    by ")?;
     match denial.rule {
-        Rule::Number(_) => push_decided(sheet, texts, entries, page, grant_at(entries, page))?,
+        Rule::Number(_) => push_decided(sheet, known, entries, page, grant_at(entries, page))?,
         Rule::K | Rule::A | Rule::I => sheet.extend_from_slice(b"the processor")?,
     }
     sheet.extend_from_slice(b": ")?;
@@ -431,6 +422,7 @@ fn reason_for<'a>(rules: &[PolicyRule], denial: Denial, sight: Sight<'a>) -> Rea
         denial.kind,
         denial.rule,
         denial.code,
+        sight.answer,
         granted,
         said_of(rules, granted),
         word_branch(sight.word),
@@ -442,16 +434,16 @@ fn reason_for<'a>(rules: &[PolicyRule], denial: Denial, sight: Sight<'a>) -> Rea
 pub fn push_denial<'a>(
     sheet: &mut Vec<u8>,
     alloc: Global,
-    texts: Texts<'a>,
+    known: Known<'a>,
     denial: Denial,
     sight: Sight<'a>,
 ) -> Result<(), AllocError>
     ensures { OnOk result (sheet.new.items
-        ≡ sheet.old.items ++ denial_text (context texts.entry) denial (sighted sight.entry)) }
+        ≡ sheet.old.items ++ denial_text (known_placed known.entry) denial (sighted sight.entry)) }
 {
-    let reason = reason_for(texts.policy.rules(), denial, sight);
-    push_what(sheet, alloc, texts, denial, sight)?;
-    push_by(sheet, texts, sight.entries, denial, reason)?;
+    let reason = reason_for(known.policy.rules(), denial, sight);
+    push_what(sheet, alloc, known, denial, sight)?;
+    push_by(sheet, known, sight.entries, denial, reason)?;
     push_mend(sheet, mend_words(reason))
 }
 

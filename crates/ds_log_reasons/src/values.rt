@@ -1,56 +1,63 @@
 //! The values of the registers that an instruction reads, as far as they tell why it was denied.
-ghost use Rattle.std.specs.Prelude.{◌≡◌, ◌++◌, ◌%◌, ◌==◌, ◌&&◌, not, OnOk, slice_index};
-ghost use Rattle.ds_log_reasons.specs.Values.{base_of, is_late, late_text, operands_of, value_text, values_text};
+ghost use Rattle.std.specs.Prelude.{◌≡◌, ◌++◌, ◌%◌, ◌==◌, OnOk, None, slice_index};
+ghost use Rattle.ds_log_reasons.specs.Values.{held, is_late, late_text, operands_for, operands_of, reads, value_text, values_text};
 
 use crate::digits::{push_decimal, push_hex};
-use ds_isa::Instr;
-use ds_word::{sign16, wrapping_difference};
+use ds_isa::{Instr, Late};
+use ds_log::Denied;
 use std::alloc::AllocError;
 
 /// What an instruction takes its address from, or what it adds or subtracts.
 #[derive(Clone, Copy, Debug, PartialEq, Eq)]
 pub(crate) enum Operands {
-    /// An address: a register, and the half after it.
-    Base { register: u8, offset: u16 },
+    /// One register: that of an address, or one to which a half is added.
+    One { register: u8 },
     /// Two registers.
     Two { first: u8, second: u8 },
-    /// One register.
-    One { register: u8 },
     /// The registers of a call that gives a page.
     Call,
     /// Nothing that tells why.
     Nothing,
 }
 
+/// What an instruction takes that was denied so: a call that was refused takes the registers of a give.
+pub(crate) fn operands_for(kind: Denied, instr: &Instr) -> Operands
+    ensures { result ≡ operands_for kind instr.now }
+{
+    match kind {
+        Denied::Give => Operands::Call,
+        Denied::Fetch | Denied::Load | Denied::Store | Denied::Exec => operands_of(instr),
+    }
+}
+
 /// What an instruction takes.
-pub(crate) fn operands_of(instr: &Instr) -> Operands
+fn operands_of(instr: &Instr) -> Operands
     ensures { result ≡ operands_of instr.now }
 {
     match *instr {
-        Instr::Lb { rs, immediate, .. } => base(rs, immediate),
-        Instr::Lh { rs, immediate, .. } => base(rs, immediate),
-        Instr::Lwl { rs, immediate, .. } => base(rs, immediate),
-        Instr::Lw { rs, immediate, .. } => base(rs, immediate),
-        Instr::Lbu { rs, immediate, .. } => base(rs, immediate),
-        Instr::Lhu { rs, immediate, .. } => base(rs, immediate),
-        Instr::Lwr { rs, immediate, .. } => base(rs, immediate),
-        Instr::Sb { rs, immediate, .. } => base(rs, immediate),
-        Instr::Sh { rs, immediate, .. } => base(rs, immediate),
-        Instr::Swl { rs, immediate, .. } => base(rs, immediate),
-        Instr::Sw { rs, immediate, .. } => base(rs, immediate),
-        Instr::Swr { rs, immediate, .. } => base(rs, immediate),
+        Instr::Lb { rs, .. } => one(rs),
+        Instr::Lh { rs, .. } => one(rs),
+        Instr::Lwl { rs, .. } => one(rs),
+        Instr::Lw { rs, .. } => one(rs),
+        Instr::Lbu { rs, .. } => one(rs),
+        Instr::Lhu { rs, .. } => one(rs),
+        Instr::Lwr { rs, .. } => one(rs),
+        Instr::Sb { rs, .. } => one(rs),
+        Instr::Sh { rs, .. } => one(rs),
+        Instr::Swl { rs, .. } => one(rs),
+        Instr::Sw { rs, .. } => one(rs),
+        Instr::Swr { rs, .. } => one(rs),
         Instr::Add { rs, rt, .. } => two(rs, rt),
         Instr::Sub { rs, rt, .. } => two(rs, rt),
-        Instr::Addi { rs, .. } => Operands::One { register: rs },
-        Instr::Syscall { .. } => Operands::Call,
+        Instr::Addi { rs, .. } => one(rs),
         _ => Operands::Nothing,
     }
 }
 
-fn base(register: u8, offset: u16) -> Operands
-    ensures { result ≡ Operands.Base register offset }
+fn one(register: u8) -> Operands
+    ensures { result ≡ Operands.One register }
 {
-    Operands::Base { register, offset }
+    Operands::One { register }
 }
 
 fn two(first: u8, second: u8) -> Operands
@@ -61,87 +68,84 @@ fn two(first: u8, second: u8) -> Operands
 
 /// What a register holds.
 fn held(general: &[u32; 32], register: u8) -> u32
-    ensures { result ≡ slice_index general.now (register % 32) }
+    ensures { result ≡ held general.now register }
 {
     general[usize::from(register % 32)]
 }
 
-/// What was in the register from which this address came.
-fn base_of(address: u32, offset: u16) -> u32
-    ensures { result ≡ base_of address offset }
+/// What an operand reads: its value from before its load, if that is late.
+fn reads(general: &[u32; 32], late: Option<Late>, register: u8) -> u32
+    ensures { result ≡ reads general.now late register }
 {
-    wrapping_difference(address, sign16(offset))
+    match late {
+        Some(late) if late.register == register % 32 => late.old,
+        _ => held(general, register),
+    }
 }
 
-/// Adds a register with its value, after what comes before it.
-fn push_value(
-    sheet: &mut Vec<u8>,
-    before: &[u8],
-    register: u8,
-    value: u32,
-) -> Result<(), AllocError>
-    ensures { OnOk result
-        (sheet.new.items ≡ sheet.old.items ++ value_text before.now register value) }
+/// Whether the load of a register is late.
+fn is_late(late: Option<Late>, register: u8) -> bool
+    ensures { result ≡ is_late late register }
 {
-    sheet.extend_from_slice(before)?;
-    push_decimal(sheet, u64::from(register))?;
-    sheet.extend_from_slice(b" ")?;
-    push_hex(sheet, value)
+    match late {
+        Some(late) => late.register == register % 32,
+        None => false,
+    }
 }
 
-/// Whether a register that now has another value than the one that was read is one whose load was
-/// late: registers 26 and 27 may be lost at any time.
-fn is_late(general: &[u32; 32], register: u8, value: u32) -> bool
-    ensures { result ≡ is_late general.now register value }
-{
-    register != 26 && register != 27 && held(general, register) != value
-}
-
-/// Adds that a load was late, where it was.
+/// Adds that a value is from before a load, where it is.
 fn push_late(sheet: &mut Vec<u8>, late: bool) -> Result<(), AllocError>
     ensures { OnOk result (sheet.new.items ≡ sheet.old.items ++ late_text late) }
 {
     if late {
-        sheet.extend_from_slice(b", since its load was late")
+        sheet.extend_from_slice(b" (from before its load)")
     } else {
         Ok(())
     }
 }
 
-/// Adds what an instruction read that came to this address, with these registers before its unit, and
-/// by whether it was in a slot.
+/// Adds a register with what it reads, after what comes before it.
+#[tactic(auto, unfolding(crate::specs::Values::value_text))]
+fn push_value(
+    sheet: &mut Vec<u8>,
+    before: &[u8],
+    general: &[u32; 32],
+    late: Option<Late>,
+    register: u8,
+) -> Result<(), AllocError>
+    ensures { OnOk result (sheet.new.items
+        ≡ sheet.old.items ++ value_text before.now general.now late register) }
+{
+    sheet.extend_from_slice(before)?;
+    push_decimal(sheet, u64::from(register))?;
+    sheet.extend_from_slice(b" ")?;
+    push_hex(sheet, reads(general, late, register))?;
+    push_late(sheet, is_late(late, register))
+}
+
+/// Adds what an instruction reads of these registers, of which the load of one may be late. A call
+/// finishes that load first.
 #[tactic(auto, unfolding(crate::specs::Values::values_text))]
 pub(crate) fn push_values(
     sheet: &mut Vec<u8>,
     general: &[u32; 32],
-    address: u32,
-    slot: bool,
+    late: Option<Late>,
     operands: Operands,
 ) -> Result<(), AllocError>
     ensures { OnOk result
-        (sheet.new.items ≡ sheet.old.items ++ values_text general.now address slot operands) }
+        (sheet.new.items ≡ sheet.old.items ++ values_text general.now late operands) }
 {
     match operands {
-        Operands::Base { register, offset } => {
-            let value = base_of(address, offset);
-            push_value(sheet, b", with $", register, value)?;
-            push_late(sheet, !slot && is_late(general, register, value))
-        }
+        Operands::One { register } => push_value(sheet, b", with $", general, late, register),
         Operands::Two { first, second } => {
-            push_value(sheet, b", with $", first, held(general, first))?;
-            push_value(sheet, b" and $", second, held(general, second))
+            push_value(sheet, b", with $", general, late, first)?;
+            push_value(sheet, b" and $", general, late, second)
         }
-        Operands::One { register } => push_value(
-            sheet,
-            b", with $",
-            register,
-            held(general, register),
-        ),
         Operands::Call => {
-            push_value(sheet, b", with $", 4, held(general, 4))?;
-            push_value(sheet, b", $", 5, held(general, 5))?;
-            push_value(sheet, b", $", 6, held(general, 6))?;
-            push_value(sheet, b" and $", 7, held(general, 7))
+            push_value(sheet, b", with $", general, None, 4)?;
+            push_value(sheet, b", $", general, None, 5)?;
+            push_value(sheet, b", $", general, None, 6)?;
+            push_value(sheet, b" and $", general, None, 7)
         }
         Operands::Nothing => Ok(()),
     }

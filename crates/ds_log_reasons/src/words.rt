@@ -11,13 +11,15 @@ pub fn reason_words(reason: Reason) -> &'static [u8]
     ensures { result.now ≡ reason_words reason }
 {
     match reason {
-        Reason::NoEntry => b"the process has no entry at this page",
+        Reason::NoEntry => b"nothing is granted at this page",
+        Reason::NoCode => b"nothing is granted at this page",
         Reason::Forbidden => b"it grants nothing",
         Reason::Ended => b"it granted the page, and its `until` has come",
         Reason::Revoked => b"it took the right away",
         Reason::ReadAlone => b"it grants reading alone",
         Reason::Narrowed => b"it granted writing, and a `narrow` left reading alone",
-        Reason::Shared => b"another process shared it for reading",
+        Reason::GrantedToRead => b"the page may be read alone",
+        Reason::GivenToRead => b"it was given for reading, or narrowed",
         Reason::Unaligned => b"the address is not a multiple of the size",
         Reason::Kernel => b"no process may use an address from 80000000 on",
         Reason::CallInSlot => b"8: a call may not be in the slot of a branch",
@@ -26,9 +28,19 @@ pub fn reason_words(reason: Reason) -> &'static [u8]
         Reason::BranchInSlot => b"10: a branch may not be in the slot of a branch",
         Reason::Coprocessor => b"11: a process may use no coprocessor",
         Reason::Overflow => b"12: the result does not fit into 32 bits with a sign",
-        Reason::NothingToGive => b"the process has no right there that it could give",
-        Reason::MayNotGive => b"the process may not give it on",
-        Reason::GiveRefused => b"the give was refused, and register 2 then has the number",
+        Reason::NoReceiver => {
+            b"12: there is no process of the number in register 5, or it has ended"
+        }
+        Reason::NoPage => b"13: an address is not a multiple of 4096, or is 80000000 or more",
+        Reason::NothingToGive => b"14: there is no right there to give",
+        Reason::MayNotGive => b"15: the process may not give it on",
+        Reason::WrongMode => {
+            b"15: there is no such mode, or it asks to write what may only be read"
+        }
+        Reason::IsTaken => b"16: the receiver has an entry at its address already",
+        Reason::IsFull => b"17: the receiver has 256 entries",
+        Reason::FifthRegion => b"11: the receiver's address would be in a fifth region of 4 MiB",
+        Reason::NoCopy => b"18: no page is left for a copy",
         Reason::Unknown => b"nothing more is known of it",
     }
 }
@@ -42,18 +54,26 @@ pub fn mend_words(reason: Reason) -> &'static [u8]
         Reason::NoEntry => {
             b"add a `[[rule]]` for this process and page address, or correct the address"
         }
+        Reason::NoCode => {
+            b"end the program by `exit` before it comes here, correct the jump, or add a `[[rule]]` for this page"
+        }
         Reason::Forbidden => b"write another `right` in that rule, or correct the address",
         Reason::Ended => b"write a later `until` in that rule, or leave it out",
-        Reason::Revoked => b"leave that command out, or grant the page anew after a `drop`",
+        Reason::Revoked => b"leave that command out, or grant the page anew by a later command",
         Reason::ReadAlone => b"write the right `write` there, or store to another page",
         Reason::Narrowed => b"leave the `narrow` out, or store before it comes",
-        Reason::Shared => b"give it with mode 2 in register 7, or store to another page",
+        Reason::GrantedToRead => {
+            b"write the right `write` in that command, leave out a `narrow`, or store to another page"
+        }
+        Reason::GivenToRead => {
+            b"give it with mode 2 in register 7, leave out a `narrow`, or store to another page"
+        }
         Reason::Unaligned => {
             b"correct the address: words are at multiples of 4, and halves at multiples of 2"
         }
-        Reason::Kernel => b"correct the address: it begins below 80000000",
+        Reason::Kernel => b"correct the address: a process has those below 80000000",
         Reason::CallInSlot => b"move the `syscall` away, and put a `nop` after the branch",
-        Reason::Breakpoint => b"leave the `break` out, or `resume` past a jump over it",
+        Reason::Breakpoint => b"leave the `break` out",
         Reason::NoInstruction => {
             b"end the program by `exit` before it runs into its data, or correct the target of the jump"
         }
@@ -64,12 +84,24 @@ pub fn mend_words(reason: Reason) -> &'static [u8]
         Reason::Overflow => {
             b"write `addu`, `addiu` or `subu`, which wrap around, or use smaller numbers"
         }
+        Reason::NoReceiver => {
+            b"write the number of a process that runs into register 5, or give before it ends"
+        }
+        Reason::NoPage => b"write addresses of pages below 80000000 into registers 4 and 6",
         Reason::NothingToGive => {
             b"correct the address in register 4, or give before the right goes"
         }
-        Reason::MayNotGive => b"write `give = true` in the rule that granted it",
-        Reason::GiveRefused => {
-            b"look the number up among the calls: 12 or 16 to 18 are of the receiver, and 15 of the mode"
+        Reason::MayNotGive => b"write `give = true` in that rule, or `give` after that `grant`",
+        Reason::WrongMode => {
+            b"write 1, 2 or 3 into register 7; for 2 the giver needs the right `write`"
+        }
+        Reason::IsTaken => {
+            b"write another address into register 6, or let the receiver `drop` that entry before"
+        }
+        Reason::IsFull => b"let the receiver `drop` one before",
+        Reason::FifthRegion => b"write an address near one that the receiver has into register 6",
+        Reason::NoCopy => {
+            b"write a larger `frames` in the policy, or share the page by mode 1 or 2"
         }
         Reason::Unknown => b"nothing can be told",
     }

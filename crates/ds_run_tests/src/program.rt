@@ -252,6 +252,11 @@ dsmon trace --help|docs/trace.md
 dsmon demo -h|Usage: dsmon demo
 dsmon list --help|  1  00400000  24020000    end:  addiu $2,$0,0
 dsmon check --help|  00400000 read  code, part 0 of guest.s, rule 1
+dsmon list --help|    addiu $v0,$zero,0
+dsmon bare --help|--names registers are called by their common names
+dsmon trace --help|    guest.s:4 main+4  1 1 00400004 addiu $v0,$zero,1  $v0=00000001
+dsmon explain --help|    to mend: write the right `write` there, or store to another page
+dsmon explain --help|docs/explain.md
 ";
 
 /// Whether words are answered with status 1 and without output, and are told what is wanted.

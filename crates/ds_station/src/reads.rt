@@ -12,7 +12,7 @@ ghost use Rattle.ds_station.specs.Reads.{address_held, fetched, general_held, hi
 use crate::stage::Stage;
 use crate::station::Station;
 use ds_cp0::register;
-use ds_isa::{Kind, Size};
+use ds_isa::{Kind, Late, Size};
 use ds_policy::{Access, Entry as PageEntry, TimedCommand, Verdict};
 use ds_procs::Standing;
 use ds_tlb::{Entry, Lookaside};
@@ -113,6 +113,13 @@ impl<L: Lookaside> Station<L> {
         } else {
             self.seated(process)
         }
+    }
+
+    /// The register whose load is late on the processor.
+    pub fn late(&self) -> Option<Late>
+        ensures { result ≡ self.now.held.core.registers.late }
+    {
+        self.parts.core.late
     }
 
     /// HI of a process. Of the one that runs it is the processor's, which is the process's own at the

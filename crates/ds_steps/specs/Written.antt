@@ -9,12 +9,13 @@ use Rattle.ds_refinement.specs.Held.{Held}
 use Rattle.ds_refinement.specs.Runs.{RunsTo}
 use Rattle.ds_words.specs.declared.words.BareRequest.{BareRequest}
 use Rattle.ds_words.specs.declared.words.CheckRequest.{CheckRequest}
+use Rattle.ds_words.specs.declared.words.ExplainRequest.{ExplainRequest}
 use Rattle.ds_words.specs.declared.words.ListRequest.{ListRequest}
 use Rattle.ds_words.specs.Windows.{windows_in}
 use Rattle.ds_words.specs.declared.words.Request.{Request}
 use Rattle.ds_words.specs.declared.words.RunRequest.{RunRequest}
 use Rattle.ds_words.specs.declared.words.TraceRequest.{TraceRequest}
-use Rattle.ds_words.specs.Words.{AsksForBare, AsksForDemo, AsksForRun, AsksForList, AsksForCheck, AsksForTrace}
+use Rattle.ds_words.specs.Words.{AsksForBare, AsksForDemo, AsksForRun, AsksForList, AsksForCheck, AsksForExplain, AsksForTrace}
 
 -- the text of what a station holds; its log has a line for each line feed
 abbrev pub shown_text : Held → List ℕ
@@ -62,4 +63,5 @@ AsksForAnother words =
     ⊎ (((request : CheckRequest) × AsksForCheck words request)
     ⊎ (((request : BareRequest) × AsksForBare words request)
     ⊎ (((request : TraceRequest) × AsksForTrace words request)
-    ⊎ ((request : RunRequest) × AsksForRun words request × (0 < length (windows_in request.extras.memory)))))))
+    ⊎ (((request : ExplainRequest) × AsksForExplain words request)
+    ⊎ ((request : RunRequest) × AsksForRun words request × (0 < length (windows_in request.extras.memory))))))))

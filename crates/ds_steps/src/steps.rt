@@ -37,6 +37,7 @@ pub fn stations_write<F: Files + Drop>(
         Ok(Ok(Wish::Check(_))) => true,
         Ok(Ok(Wish::Bare(_))) => true,
         Ok(Ok(Wish::Trace(_))) => true,
+        Ok(Ok(Wish::Explain(_))) => true,
         _ => false,
     }
 }

@@ -18,3 +18,5 @@ pub mod Summing
 pub mod MemoryLines
 pub mod Accounting
 pub mod Joining
+pub mod Sourcing
+pub mod Units

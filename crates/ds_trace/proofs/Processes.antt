@@ -3,6 +3,7 @@ use Rattle.std.proofs.Common.{◌≡◌, ◌∙◌, ℕ, ◌+◌, ◌-◌, ◌<�
 use Rattle.std.specs.Prelude.{Option, slice_get}
 use Rattle.std.proofs.lemmas.List.{drop_all, drop_more, drop-map}
 use Rattle.std.proofs.lemmas.Option.{slice_get-get_or, slice_get-map, slice_get_past}
+use Rattle.ds_listing.specs.declared.names.RegisterNames.{RegisterNames}
 use Rattle.ds_procs.specs.declared.process.Standing.{Standing}
 use Rattle.ds_pagemap.specs.Machine.{State, Process, process_of, no_process}
 use Rattle.ds_refinement.specs.Held.{Held}
@@ -73,14 +74,14 @@ changes_more v m time t olds p line new whole old s above within now was is adds
     ∙ (sym (ap (λ (l : List Standing). line ++ standings_text v time olds p l) (standings_from m p above within)) ∙ before))
 
 -- the line of one more of them at the end
-pub process_more : (lines : List (List ℕ)) (h : Held) (p count : ℕ) (line new : List ℕ) (s : Standing) (pc : ℕ) (general whole : List ℕ) → p < count + 1 → line ++ processes_held lines h p (count + 1 - p) ≡ whole → new ≡ line ++ process_text lines p s pc general
-    → s ≡ (process_of h.kept.state p).standing → pc ≡ address_held h p → general ≡ general_held h p → new ++ processes_held lines h (p + 1) (count + 1 - (p + 1)) ≡ whole
-process_more lines h p count line new s pc general whole within before adds is at has =
-    let rest : List ℕ = processes_held lines h (p + 1) (count + 1 - (p + 1)) in
+pub process_more : (names : RegisterNames) (lines : List (List ℕ)) (h : Held) (p count : ℕ) (line new : List ℕ) (s : Standing) (pc : ℕ) (general whole : List ℕ) → p < count + 1 → line ++ processes_held names lines h p (count + 1 - p) ≡ whole → new ≡ line ++ process_text names lines p s pc general
+    → s ≡ (process_of h.kept.state p).standing → pc ≡ address_held h p → general ≡ general_held h p → new ++ processes_held names lines h (p + 1) (count + 1 - (p + 1)) ≡ whole
+process_more names lines h p count line new s pc general whole within before adds is at has =
+    let rest : List ℕ = processes_held names lines h (p + 1) (count + 1 - (p + 1)) in
     let left : count + 1 - p ≡ suc (count + 1 - (p + 1)) = omega (arith, within) in
-    let text : process_text lines p s pc general ≡ process_text lines p (process_of h.kept.state p).standing (address_held h p) (general_held h p) =
-    ap (λ (x : Standing). process_text lines p x pc general) is
-    ∙ (ap (λ (y : ℕ). process_text lines p (process_of h.kept.state p).standing y general) at ∙ ap (process_text lines p (process_of h.kept.state p).standing (address_held h p)) has) in
+    let text : process_text names lines p s pc general ≡ process_text names lines p (process_of h.kept.state p).standing (address_held h p) (general_held h p) =
+    ap (λ (x : Standing). process_text names lines p x pc general) is
+    ∙ (ap (λ (y : ℕ). process_text names lines p (process_of h.kept.state p).standing y general) at ∙ ap (process_text names lines p (process_of h.kept.state p).standing (address_held h p)) has) in
     ap (λ (l : List ℕ). l ++ rest) (adds ∙ ap (λ (l : List ℕ). line ++ l) text)
-    ∙ (append_assoc line (process_text lines p (process_of h.kept.state p).standing (address_held h p) (general_held h p)) rest
-    ∙ (sym (ap (λ (n : ℕ). line ++ processes_held lines h p n) left) ∙ before))
+    ∙ (append_assoc line (process_text names lines p (process_of h.kept.state p).standing (address_held h p) (general_held h p)) rest
+    ∙ (sym (ap (λ (n : ℕ). line ++ processes_held names lines h p n) left) ∙ before))

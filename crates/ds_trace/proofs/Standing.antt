@@ -8,6 +8,7 @@ use Rattle.ds_policy.specs.Grants.{PageState}
 use Rattle.ds_policy.specs.Pages.{Table}
 use Rattle.ds_cp0.specs.System.{is_user}
 use Rattle.ds_core.specs.Core.{CoreState}
+use Rattle.ds_listing.specs.declared.names.RegisterNames.{RegisterNames}
 use Rattle.ds_procs.specs.declared.process.Standing.{Standing}
 use Rattle.ds_pagemap.specs.Machine.{State, Process, no_process, process_of, first}
 use Rattle.ds_pagemap.specs.Boundary.{is_first}
@@ -59,16 +60,16 @@ standings_alike (x ∷ xs) (y ∷ ys) long same =
     ∙ ap (λ (ss : List Standing). y.standing ∷ ss) (standings_alike xs ys shorter (λ i. same (suc i)))
 
 -- the lines of processes that a station shows as they are
-processes_stand : (lines : List (List ℕ)) (h : Held) (xs : List Process) (p : ℕ)
+processes_stand : (names : RegisterNames) (lines : List (List ℕ)) (h : Held) (xs : List Process) (p : ℕ)
     → ((j i : ℕ) → j ≡ p + i → ((process_of h.kept.state j).standing ≡ (get_or xs i no_process).standing) × (address_held h j ≡ (get_or xs i no_process).pc) × (general_held h j ≡ (get_or xs i no_process).registers.general))
-    → processes_held lines h p (length xs) ≡ processes_text lines p xs
-processes_stand lines h [] p same = refl
-processes_stand lines h (x ∷ xs) p same =
+    → processes_held names lines h p (length xs) ≡ processes_text names lines p xs
+processes_stand names lines h [] p same = refl
+processes_stand names lines h (x ∷ xs) p same =
     let here = same p 0 (omega arith) in
-    ap (λ (s : Standing). process_text lines p s (address_held h p) (general_held h p) ++ processes_held lines h (p + 1) (length xs)) here.0
-    ∙ (ap (λ (pc : ℕ). process_text lines p x.standing pc (general_held h p) ++ processes_held lines h (p + 1) (length xs)) here.1
-    ∙ (ap (λ (general : List ℕ). process_text lines p x.standing x.pc general ++ processes_held lines h (p + 1) (length xs)) here.2
-    ∙ ap (λ (l : List ℕ). process_text lines p x.standing x.pc x.registers.general ++ l) (processes_stand lines h xs (p + 1) (λ j i is. same j (suc i) (omega (arith, is))))))
+    ap (λ (s : Standing). process_text names lines p s (address_held h p) (general_held h p) ++ processes_held names lines h (p + 1) (length xs)) here.0
+    ∙ (ap (λ (pc : ℕ). process_text names lines p x.standing pc (general_held h p) ++ processes_held names lines h (p + 1) (length xs)) here.1
+    ∙ (ap (λ (general : List ℕ). process_text names lines p x.standing x.pc general ++ processes_held names lines h (p + 1) (length xs)) here.2
+    ∙ ap (λ (l : List ℕ). process_text names lines p x.standing x.pc x.registers.general ++ l) (processes_stand names lines h xs (p + 1) (λ j i is. same j (suc i) (omega (arith, is))))))
 
 -- what is looked at of a state, with this unit, log, standings and table
 abbrev looked_by : View → State → Option Start → ℕ → List Standing → Table → Looked
@@ -219,10 +220,10 @@ module _ (h : Held) (m : State) (k : Stands h m) where
   -- The end.
 
   -- the lines of all processes
-  all_stand : (lines : List (List ℕ)) → h.own.spent ≡ 0 → processes_held lines h 1 (length h.kept.state.processes) ≡ processes_text lines 1 m.processes
-  all_stand lines none =
-      ap (λ (n : ℕ). processes_held lines h 1 n) (sym (as_many h.kept.state.ready m h.kept.state k.agrees.kept.state))
-      ∙ processes_stand lines h m.processes 1 (λ j i is.
+  all_stand : (names : RegisterNames) (lines : List (List ℕ)) → h.own.spent ≡ 0 → processes_held names lines h 1 (length h.kept.state.processes) ≡ processes_text names lines 1 m.processes
+  all_stand names lines none =
+      ap (λ (n : ℕ). processes_held names lines h 1 n) (sym (as_many h.kept.state.ready m h.kept.state k.agrees.kept.state))
+      ∙ processes_stand names lines h m.processes 1 (λ j i is.
       let back : j - 1 ≡ i = omega (arith, is) in
       let some : 0 < j = omega (arith, is) in
       let at : process_of m j ≡ get_or m.processes i no_process = ap (λ (x : ℕ). get_or m.processes x no_process) back in
@@ -230,6 +231,6 @@ module _ (h : Held) (m : State) (k : Stands h m) where
 
   pub end_stands : (v : View) (c : Counted) → h.own.spent ≡ 0 → end_held v c h ≡ end_text v c m
   end_stands v c none =
-      ap (λ (t : ℕ). summary_text v c t (lines_of h.kept.log) ++ processes_held (lines_of h.kept.log) h 1 (length h.kept.state.processes)) (sym (time_stands h m k))
-      ∙ (ap (λ (log : List ℕ). summary_text v c m.time (lines_of log) ++ processes_held (lines_of log) h 1 (length h.kept.state.processes)) (sym log_stands)
-      ∙ ap (λ (l : List ℕ). summary_text v c m.time (lines_of (log_of m)) ++ l) (all_stand (lines_of (log_of m)) none))
+      ap (λ (t : ℕ). summary_text v c t (lines_of h.kept.log) ++ processes_held v.names (lines_of h.kept.log) h 1 (length h.kept.state.processes)) (sym (time_stands h m k))
+      ∙ (ap (λ (log : List ℕ). summary_text v c m.time (lines_of log) ++ processes_held v.names (lines_of log) h 1 (length h.kept.state.processes)) (sym log_stands)
+      ∙ ap (λ (l : List ℕ). summary_text v c m.time (lines_of (log_of m)) ++ l) (all_stand v.names (lines_of (log_of m)) none))

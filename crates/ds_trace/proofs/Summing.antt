@@ -1,5 +1,5 @@
 -- A run that is counted to its end, and what is told of it.
-use Rattle.std.proofs.Common.{◌≡◌, ℕ, Bool, true, List, [], ◌∷◌, Option, Some, None, Result, Ok, Err, refl, sym, ap, subst, ◌∙◌, inl, inr}
+use Rattle.std.proofs.Common.{◌≡◌, Bor, ℕ, Bool, true, List, [], ◌∷◌, Option, Some, None, Result, Ok, Err, refl, sym, ap, subst, ◌∙◌, inl, inr}
 use Rattle.std.specs.Prelude.{◌&&◌, codes, nat_le, nat_lt}
 use Rattle.std.specs.Io.KnownBytes.{Appends}
 use Rattle.ds_word.specs.ResultBinding.{◌>>=◌}
@@ -25,6 +25,7 @@ use Rattle.ds_station.specs.declared.fault.Fault.TheVariants as fault
 use Rattle.ds_station.proofs.Along.{runs_along}
 use Rattle.ds_station.proofs.Headlines.{part_prefix, text_alike, writes_prefix}
 use Rattle.ds_view.specs.declared.view.View.{View}
+use Rattle.ds_listing.specs.declared.pages.PageLines.{PageLines}
 use Rattle.ds_view.specs.Views.{whole}
 use Rattle.ds_trace.specs.declared.processor.ProcessorCounts.{ProcessorCounts}
 use Rattle.ds_trace.specs.Counted.{HasCounted}
@@ -37,34 +38,38 @@ use Rattle.ds_trace.proofs.Following.{ran_whole}
 use Rattle.ds_trace.proofs.Inputs.{BeginsAt}
 use Rattle.ds_trace.proofs.Processing.{processor_of_some, processor_told}
 
+-- the view that tells nothing, with any lines of pages
+abbrev counting_by : Bor (List (Option PageLines)) → View
+counting_by pages = record counting { pages = pages }
+
 -- What is counted by the view that tells nothing is what is counted of all turns.
-pub counted_whole : (n : ℕ) (choices : List Bool) (m : State) → counts_along counting n choices m ≡ counts_along whole n choices m
+pub counted_whole : (pages : Bor (List (Option PageLines))) (n : ℕ) (choices : List Bool) (m : State) → counts_along (counting_by pages) n choices m ≡ counts_along whole n choices m
 unfolding counts_along
-counted_whole n [] m = refl
-counted_whole n (touch ∷ earlier) m = ap (next_counts whole n touch (after n earlier m)) (counted_whole n earlier m)
+counted_whole pages n [] m = refl
+counted_whole pages n (touch ∷ earlier) m = ap (next_counts whole n touch (after n earlier m)) (counted_whole pages n earlier m)
 
 -- a run that was followed so is counted
-pub counts_all : (cut : Option Fault) (n : ℕ) (from h : Held) (a d : Option (List ℕ)) (text : List ℕ) (k : Counted) (c : ProcessorCounts) (lines : List ℕ) → TellsAll cut counting n from h a d text k
-    → HasCounted (window_end counting) (told_from counting n) n from h c lines → IsCutIf cut from h → CountsAll cut n from h k
-counts_all cut n from h a d text k c lines all counted refused = record {
+pub counts_all : (pages : Bor (List (Option PageLines))) (cut : Option Fault) (n : ℕ) (from h : Held) (a d : Option (List ℕ)) (text : List ℕ) (k : Counted) (c : ProcessorCounts) (lines : List ℕ) → TellsAll cut (counting_by pages) n from h a d text k
+    → HasCounted (window_end (counting_by pages)) (told_from (counting_by pages) n) n from h c lines → IsCutIf cut from h → CountsAll cut n from h k
+counts_all pages cut n from h a d text k c lines all counted refused = record {
   runs = λ m begin.
       let told = all.tells.tells m begin in
       let last : State = touched told.early (after n told.choices m) in record {
         last = last;
         reached = record { choices = told.choices; early = told.early; comes_to = refl };
         stands = told.stands;
-        counted = sym all.counts ∙ (told.counted ∙ counted_whole n told.choices m);
-        came = (processor_told counting n from h c lines m last counted begin told.stands).0;
+        counted = sym all.counts ∙ (told.counted ∙ counted_whole pages n told.choices m);
+        came = (processor_told (counting_by pages) n from h c lines m last counted begin told.stands).0;
       };
   stopped = all.stopped;
   refused = refused;
 }
 
 -- by such a view
-pub counts_of : (v : View) (cut : Option Fault) (n : ℕ) (from h : Held) (a d : Option (List ℕ)) (text : List ℕ) (k : Counted) (c : ProcessorCounts) (lines : List ℕ) → v ≡ counting → TellsAll cut v n from h a d text k
+pub counts_of : (v : View) (cut : Option Fault) (n : ℕ) (from h : Held) (a d : Option (List ℕ)) (text : List ℕ) (k : Counted) (c : ProcessorCounts) (lines : List ℕ) → v ≡ counting_by v.pages → TellsAll cut v n from h a d text k
     → HasCounted (window_end v) (told_from v n) n from h c lines → IsCutIf cut from h → CountsAll cut n from h k
 counts_of v cut n from h a d text k c lines is all counted refused =
-    counts_all cut n from h a d text k c lines (subst (λ (x : View). TellsAll cut x n from h a d text k) is all)
+    counts_all v.pages cut n from h a d text k c lines (subst (λ (x : View). TellsAll cut x n from h a d text k) is all)
     (subst (λ (x : View). HasCounted (window_end x) (told_from x n) n from h c lines) is counted) refused
 
 -- What the station has done then.

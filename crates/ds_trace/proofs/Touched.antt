@@ -1,10 +1,12 @@
 -- What a touch leaves of what a trace shows.
 use Rattle.std.proofs.Common.{◌≡◌, ◌≢◌, ℕ, zero, suc, ◌+◌, ◌-◌, ◌*◌, ◌/◌, Bool, true, false, cond, List, [], ◌∷◌, ◌++◌, Option, Some, None, refl, sym, ap, ◌∙◌, arith, set, get_or}
-use Rattle.std.specs.Prelude.{is_some, length, map, drop, codes, decimal, slice_index, ◌||◌, ◌==◌}
+use Rattle.std.specs.Prelude.{is_some, length, map, drop, codes, decimal, slice_index, if◌then◌else◌, ◌||◌, ◌==◌}
 use Rattle.std.proofs.lemmas.List.{get_or-set_other}
 use Rattle.ds_word.specs.Word.{word, sign_extended}
 use Rattle.ds_isa.specs.Uses.{uses}
 use Rattle.ds_isa.specs.Instruction.{instruction_of}
+use Rattle.ds_listing.specs.declared.names.RegisterNames.{RegisterNames}
+use Rattle.ds_listing.specs.NamedTexts.{register_as}
 use Rattle.ds_listing.specs.Texts.{hex8}
 use Rattle.ds_policy.specs.Grants.{PageState}
 use Rattle.ds_procs.specs.declared.call.Call.{Call}
@@ -15,13 +17,15 @@ use Rattle.ds_refinement.specs.Held.{last_boundary}
 use Rattle.ds_station.specs.Reads.{fetched}
 use Rattle.ds_view.specs.declared.view.View.{View}
 use Rattle.ds_view.specs.Views.{shows_denials, shows_turn, shows_unit}
+use Rattle.ds_trace.specs.declared.lines.Told.{Told}
 use Rattle.ds_trace.specs.declared.start.Start.{Start}
 use Rattle.ds_trace.specs.declared.stores.Reach.{Reach}
 use Rattle.ds_trace.specs.Looks.{Looked, Found}
-use Rattle.ds_trace.specs.Starts.{is_call, call_at, start_at, start_of, general_of}
-use Rattle.ds_trace.specs.Calls.{answer_text, call_text}
+use Rattle.ds_trace.specs.Starts.{is_call, call_at, slot_of, page_at, start_at, start_of, general_of}
+use Rattle.ds_trace.specs.Calls.{answer_text, call_told}
 use Rattle.ds_trace.specs.Stores.{is_lost, reach_of, stored_at, stored_text}
-use Rattle.ds_trace.specs.Lines.{is_hidden, shown, register_of, register_text, result_text, front_text, instruction_line, unit_text, was_done, denied_text}
+use Rattle.ds_trace.specs.Loads.{load_reach, loaded_at, slot_loaded_at, unlinked}
+use Rattle.ds_trace.specs.Lines.{is_hidden, shown, register_of, register_text, loaded_text, result_text, front_text, source_text, told_line, first_told, slot_told, first_line, slot_line, unit_text, was_done, denied_text}
 use Rattle.ds_trace.specs.Boundaries.{due_by}
 use Rattle.ds_trace.specs.Changes.{changes_text, standing_text}
 use Rattle.ds_trace.specs.Counts.{Counted, is_counted, unit_counted, done_counted, switch_counted, counts_after}
@@ -67,8 +71,49 @@ call_at_kept : (general : List ℕ) (pc : ℕ) (o : Option ℕ) → call_at (tou
 call_at_kept general pc None = refl
 call_at_kept general pc (Some w) = ap (λ (c : Call). cond (is_call (instruction_of w)) (Some c) None) (call_kept general pc)
 
+-- nor is the base of a store or a load whose word is shown
+stored_kept : (general : List ℕ) (pc : ℕ) (o : Option Reach) → stored_at (touched_general general pc) o ≡ stored_at general o
+stored_kept general pc None = refl
+stored_kept general pc (Some r) = by (is_lost r.base) refl
+  where
+    by : (lost : Bool) → is_lost r.base ≡ lost
+        → cond lost None (Some (word (slice_index (touched_general general pc) r.base + sign_extended 16 r.offset) / 4 * 4)) ≡ cond lost None (Some (word (slice_index general r.base + sign_extended 16 r.offset) / 4 * 4))
+    by true is = refl
+    by false is = ap (λ (v : ℕ). Some (word (v + sign_extended 16 r.offset) / 4 * 4)) (other_kept general pc r.base is)
+
+loaded_kept : (general : List ℕ) (pc : ℕ) (o : Option ℕ) → loaded_at (touched_general general pc) o ≡ loaded_at general o
+loaded_kept general pc None = refl
+loaded_kept general pc (Some w) = stored_kept general pc (load_reach (instruction_of w))
+
+slot_loaded_kept : (general : List ℕ) (pc : ℕ) (o at : Option ℕ) → slot_loaded_at (touched_general general pc) o at ≡ slot_loaded_at general o at
+slot_loaded_kept general pc None at = refl
+slot_loaded_kept general pc (Some w) None = refl
+slot_loaded_kept general pc (Some w) (Some x) = stored_kept general pc (unlinked (uses (instruction_of w)).links (load_reach (instruction_of x)))
+
+-- the unit at an address, with what of it the registers tell
+abbrev start_with : PageState → ℕ → ℕ → ℕ → Option Call → ℕ → Option ℕ → Option ℕ → Start
+start_with s time p pc call number loaded slot_loaded = record {
+  time = time;
+  process = p;
+  address = pc;
+  word = fetched s p pc;
+  slot = slot_of s p pc (fetched s p pc);
+  call = call;
+  number = number;
+  page = page_at s p pc;
+  slot_page = page_at s p (word (pc + 4));
+  loaded = loaded;
+  slot_loaded = slot_loaded;
+}
+
 start_kept : (s : PageState) (general : List ℕ) (time p pc : ℕ) → start_at s (touched_general general pc) time p pc ≡ start_at s general time p pc
-start_kept s general time p pc = ap (λ (c : Option Call). record (start_at s general time p pc) { call = c }) (call_at_kept general pc (fetched s p pc))
+start_kept s general time p pc =
+    let w : Option ℕ = fetched s p pc in
+    let at : Option ℕ = slot_of s p pc w in
+    ap (λ (c : Option Call). start_with s time p pc c (slice_index (touched_general general pc) 2) (loaded_at (touched_general general pc) w) (slot_loaded_at (touched_general general pc) w at)) (call_at_kept general pc w)
+    ∙ (ap (λ (n : ℕ). start_with s time p pc (call_at general w) n (loaded_at (touched_general general pc) w) (slot_loaded_at (touched_general general pc) w at)) (other_kept general pc 2 refl)
+    ∙ (ap (λ (a : Option ℕ). start_with s time p pc (call_at general w) (slice_index general 2) a (slot_loaded_at (touched_general general pc) w at)) (loaded_kept general pc w)
+    ∙ ap (start_with s time p pc (call_at general w) (slice_index general 2) (loaded_at general w)) (slot_loaded_kept general pc w at)))
 
 touch_first_ready : (ready : List ℕ) (m : State) → (touch_first m ready).ready ≡ m.ready
 touch_first_ready [] m = refl
@@ -113,56 +158,56 @@ looked_touched v false m = refl
 -- After it.
 
 -- a register that is shown is neither 26 nor 27
-register_kept : (general : List ℕ) (pc : ℕ) (o : Option ℕ) → register_text (touched_general general pc) (shown o) ≡ register_text general (shown o)
-register_kept general pc None = refl
-register_kept general pc (Some n) = by (is_hidden n) refl
+register_kept : (names : RegisterNames) (general : List ℕ) (pc : ℕ) (o : Option ℕ) → register_text names (touched_general general pc) (shown o) ≡ register_text names general (shown o)
+register_kept names general pc None = refl
+register_kept names general pc (Some n) = by (is_hidden n) refl
   where
     apart : (none lost : Bool) → (none || lost) ≡ false → lost ≡ false
     apart true lost is = absurd (cc)
     apart false lost is = is
 
-    by : (h : Bool) → is_hidden n ≡ h → register_text (touched_general general pc) (cond h None (Some n)) ≡ register_text general (cond h None (Some n))
+    by : (h : Bool) → is_hidden n ≡ h → register_text names (touched_general general pc) (cond h None (Some n)) ≡ register_text names general (cond h None (Some n))
     by true is = refl
-    by false is = ap (λ (v : ℕ). codes "  $" ++ decimal n ++ codes "=" ++ hex8 v) (other_kept general pc n (apart (n == 0) (is_lost n) is))
-
--- nor is the base of a store whose word is shown
-stored_kept : (general : List ℕ) (pc : ℕ) (o : Option Reach) → stored_at (touched_general general pc) o ≡ stored_at general o
-stored_kept general pc None = refl
-stored_kept general pc (Some r) = by (is_lost r.base) refl
-  where
-    by : (lost : Bool) → is_lost r.base ≡ lost
-        → cond lost None (Some (word (slice_index (touched_general general pc) r.base + sign_extended 16 r.offset) / 4 * 4)) ≡ cond lost None (Some (word (slice_index general r.base + sign_extended 16 r.offset) / 4 * 4))
-    by true is = refl
-    by false is = ap (λ (v : ℕ). Some (word (v + sign_extended 16 r.offset) / 4 * 4)) (other_kept general pc r.base is)
+    by false is = ap (λ (v : ℕ). codes "  " ++ register_as names n ++ codes "=" ++ hex8 v) (other_kept general pc n (apart (n == 0) (is_lost n) is))
 
 -- what is found, with registers that were touched
 abbrev touched_found : Found → ℕ → Found
 touched_found f pc = record f { general = touched_general f.general pc }
 
-result_kept : (done : Bool) (p : ℕ) (f : Found) (pc w : ℕ) → result_text done p (touched_found f pc) w ≡ result_text done p f w
+-- what it leaves, by these registers and this address
+abbrev left_by : View → Told → Found → List ℕ → Option ℕ → List ℕ
+left_by v t f register a = if t.done then register ++ (stored_text f.memory (length f.standings) t.process a ++ loaded_text v t f) else []
+
+result_kept : (v : View) (t : Told) (f : Found) (pc : ℕ) → result_text v t (touched_found f pc) ≡ result_text v t f
 unfolding register_of
-result_kept true p f pc w =
-    ap (λ (l : List ℕ). l ++ stored_text f.memory (length f.standings) p (stored_at (touched_general f.general pc) (reach_of (instruction_of w))))
-    (register_kept f.general pc (cond (is_call (instruction_of w)) (Some 2) (uses (instruction_of w)).writes))
-    ∙ ap (λ (a : Option ℕ). register_text f.general (register_of w) ++ stored_text f.memory (length f.standings) p a) (stored_kept f.general pc (reach_of (instruction_of w)))
-result_kept false p f pc w = refl
+result_kept v t f pc =
+    ap (λ (l : List ℕ). left_by v t f l (stored_at (touched_general f.general pc) (reach_of (instruction_of t.word))))
+    (register_kept v.names f.general pc (cond (is_call (instruction_of t.word)) (Some 2) (uses (instruction_of t.word)).writes))
+    ∙ ap (left_by v t f (register_text v.names f.general (register_of t.word))) (stored_kept f.general pc (reach_of (instruction_of t.word)))
 
-line_kept : (blanks : List ℕ) (time p at : ℕ) (o : Option ℕ) (c : Option Call) (done : Bool) (f : Found) (pc : ℕ) → instruction_line blanks time p at o c done (touched_found f pc) ≡ instruction_line blanks time p at o c done f
-line_kept blanks time p at None c done f pc = refl
-line_kept blanks time p at (Some w) c done f pc =
-    ap (λ (r : List ℕ). blanks ++ front_text time p at w ++ call_text c ++ r ++ answer_text c (slice_index (touched_general f.general pc) 2) ++ codes "\n") (result_kept done p f pc w)
-    ∙ ap (λ (n : ℕ). blanks ++ front_text time p at w ++ call_text c ++ result_text done p f w ++ answer_text c n ++ codes "\n") (other_kept f.general pc 2 refl)
+line_kept : (v : View) (t : Told) (f : Found) (pc : ℕ) → told_line v t (touched_found f pc) ≡ told_line v t f
+line_kept v t f pc =
+    ap (λ (r : List ℕ). source_text v t ++ (front_text v.names t ++ call_told v.source t.number t.call ++ r ++ answer_text t.call (slice_index (touched_general f.general pc) 2) ++ codes "\n")) (result_kept v t f pc)
+    ∙ ap (λ (n : ℕ). source_text v t ++ (front_text v.names t ++ call_told v.source t.number t.call ++ result_text v t f ++ answer_text t.call n ++ codes "\n")) (other_kept f.general pc 2 refl)
 
-unit_kept : (s : Start) (done : Bool) (f : Found) (pc : ℕ) → unit_text s done (touched_found f pc) ≡ unit_text s done f
-unit_kept s done f pc =
-    ap (λ (l : List ℕ). l ++ instruction_line (codes "  ") s.time s.process (word (s.address + 4)) s.slot None done (touched_found f pc)) (line_kept [] s.time s.process s.address s.word s.call done f pc)
-    ∙ ap (λ (l : List ℕ). instruction_line [] s.time s.process s.address s.word s.call done f ++ l) (line_kept (codes "  ") s.time s.process (word (s.address + 4)) s.slot None done f pc)
+first_kept : (v : View) (s : Start) (done : Bool) (f : Found) (pc : ℕ) (o : Option ℕ) → first_line v s done (touched_found f pc) o ≡ first_line v s done f o
+first_kept v s done f pc None = refl
+first_kept v s done f pc (Some w) = line_kept v (first_told s done w) f pc
+
+slot_kept : (v : View) (s : Start) (done : Bool) (f : Found) (pc : ℕ) (o : Option ℕ) → slot_line v s done (touched_found f pc) o ≡ slot_line v s done f o
+slot_kept v s done f pc None = refl
+slot_kept v s done f pc (Some w) = ap (λ (l : List ℕ). codes "  " ++ l) (line_kept v (slot_told s done w) f pc)
+
+unit_kept : (v : View) (s : Start) (done : Bool) (f : Found) (pc : ℕ) → unit_text v s done (touched_found f pc) ≡ unit_text v s done f
+unit_kept v s done f pc =
+    ap (λ (l : List ℕ). l ++ slot_line v s done (touched_found f pc) s.slot) (first_kept v s done f pc s.word)
+    ∙ ap (λ (l : List ℕ). first_line v s done f s.word ++ l) (slot_kept v s done f pc s.slot)
 
 done_kept : (v : View) (b : Looked) (f : Found) (pc : ℕ) (o : Option Start) → done_text v b (touched_found f pc) o ≡ done_text v b f o
 done_kept v b f pc None = refl
 done_kept v b f pc (Some s) =
     ap (λ (l : List ℕ). (cond (shows_unit v s.process (is_some s.call)) l [] ++ cond (shows_denials v s.process) (denied_text (drop b.logged f.log)) []) ++ entries_text v b f)
-    (unit_kept s (was_done s (drop b.logged f.log)) f pc)
+    (unit_kept v s (was_done s (drop b.logged f.log)) f pc)
 
 half_kept : (v : View) (k : Counted) (b : Looked) (f : Found) (pc : ℕ) → half_after v k b (touched_found f pc) ≡ half_after v k b f
 half_kept v k b f pc = ap (λ (l : List ℕ). cond (shows_turn v b.began) (opening_text v k b ++ l ++ changes_text v b f) []) (done_kept v b f pc b.start)
@@ -222,33 +267,33 @@ half_counts_touched v k a b m t =
 
 -- The end.
 
-left_hidden : (n value : ℕ) → is_hidden n ≡ true → left_text n value ≡ []
-left_hidden n value is = ap (λ (b : Bool). cond (b || (value == 0)) [] (codes "  $" ++ decimal n ++ codes "=" ++ hex8 value)) is
+left_hidden : (names : RegisterNames) (n value : ℕ) → is_hidden n ≡ true → left_text names n value ≡ []
+left_hidden names n value is = ap (λ (b : Bool). cond (b || (value == 0)) [] (codes "  " ++ register_as names n ++ codes "=" ++ hex8 value)) is
 
 -- a register that is never shown may be changed
-registers_set : (n : ℕ) (general : List ℕ) (i value : ℕ) → is_hidden (n + i) ≡ true → registers_text n (set general i value) ≡ registers_text n general
-registers_set n [] i value is = refl
-registers_set n (x ∷ xs) zero value is =
+registers_set : (names : RegisterNames) (n : ℕ) (general : List ℕ) (i value : ℕ) → is_hidden (n + i) ≡ true → registers_text names n (set general i value) ≡ registers_text names n general
+registers_set names n [] i value is = refl
+registers_set names n (x ∷ xs) zero value is =
     let at : n + 0 ≡ n = omega arith in
     let hidden : is_hidden n ≡ true = sym (ap is_hidden at) ∙ is in
-    ap (λ (l : List ℕ). l ++ registers_text (n + 1) xs) (left_hidden n value hidden ∙ sym (left_hidden n x hidden))
-registers_set n (x ∷ xs) (suc i) value is =
+    ap (λ (l : List ℕ). l ++ registers_text names (n + 1) xs) (left_hidden names n value hidden ∙ sym (left_hidden names n x hidden))
+registers_set names n (x ∷ xs) (suc i) value is =
     let on : n + suc i ≡ n + 1 + i = omega arith in
-    ap (λ (l : List ℕ). left_text n x ++ l) (registers_set (n + 1) xs i value (sym (ap is_hidden on) ∙ is))
+    ap (λ (l : List ℕ). left_text names n x ++ l) (registers_set names (n + 1) xs i value (sym (ap is_hidden on) ∙ is))
 
-registers_kept : (general : List ℕ) (pc : ℕ) → registers_text 0 (touched_general general pc) ≡ registers_text 0 general
-registers_kept general pc = registers_set 0 (set general 26 0) 27 pc refl ∙ registers_set 0 general 26 0 refl
+registers_kept : (names : RegisterNames) (general : List ℕ) (pc : ℕ) → registers_text names 0 (touched_general general pc) ≡ registers_text names 0 general
+registers_kept names general pc = registers_set names 0 (set general 26 0) 27 pc refl ∙ registers_set names 0 general 26 0 refl
 
-processes_kept : (lines : List (List ℕ)) (p : ℕ) (xs : List Process) (i : ℕ) (d : Process) → processes_text lines p (set xs i (touched_process (get_or xs i d))) ≡ processes_text lines p xs
-processes_kept lines p [] i d = refl
-processes_kept lines p (x ∷ xs) zero d =
-    ap (λ (l : List ℕ). ((codes "process " ++ decimal p ++ codes " " ++ standing_text x.standing ++ codes " " ++ hex8 x.pc) ++ parked_text lines p x.standing ++ (l ++ codes "\n")) ++ processes_text lines (p + 1) xs)
-    (registers_kept x.registers.general x.pc)
-processes_kept lines p (x ∷ xs) (suc i) d = ap (λ (l : List ℕ). process_text lines p x.standing x.pc x.registers.general ++ l) (processes_kept lines (p + 1) xs i d)
+processes_kept : (names : RegisterNames) (lines : List (List ℕ)) (p : ℕ) (xs : List Process) (i : ℕ) (d : Process) → processes_text names lines p (set xs i (touched_process (get_or xs i d))) ≡ processes_text names lines p xs
+processes_kept names lines p [] i d = refl
+processes_kept names lines p (x ∷ xs) zero d =
+    ap (λ (l : List ℕ). ((codes "process " ++ decimal p ++ codes " " ++ standing_text x.standing ++ codes " " ++ hex8 x.pc) ++ parked_text lines p x.standing ++ (l ++ codes "\n")) ++ processes_text names lines (p + 1) xs)
+    (registers_kept names x.registers.general x.pc)
+processes_kept names lines p (x ∷ xs) (suc i) d = ap (λ (l : List ℕ). process_text names lines p x.standing x.pc x.registers.general ++ l) (processes_kept names lines (p + 1) xs i d)
 
 end_first : (v : View) (k : Counted) (ready : List ℕ) (m : State) → end_text v k (touch_first m ready) ≡ end_text v k m
 end_first v k [] m = refl
-end_first v k (q ∷ rest) m = ap (λ (l : List ℕ). summary_text v k m.time (lines_of (log_of m)) ++ l) (processes_kept (lines_of (log_of m)) 1 m.processes (q - 1) no_process)
+end_first v k (q ∷ rest) m = ap (λ (l : List ℕ). summary_text v k m.time (lines_of (log_of m)) ++ l) (processes_kept v.names (lines_of (log_of m)) 1 m.processes (q - 1) no_process)
 
 pub end_touched : (v : View) (k : Counted) (b : Bool) (m : State) → end_text v k (touched b m) ≡ end_text v k m
 end_touched v k true m = end_first v k m.ready m

@@ -1,5 +1,5 @@
 -- The words of a call.
-use Rattle.std.specs.Prelude.{ℕ, ◌==◌, if◌then◌else◌, codes, decimal, List, [], ◌++◌, Option, Some, None}
+use Rattle.std.specs.Prelude.{ℕ, Bool, true, false, ◌&&◌, ◌==◌, if◌then◌else◌, codes, decimal, List, [], ◌++◌, Option, Some, None}
 use Rattle.ds_listing.specs.Texts.{hex2, hex8}
 use Rattle.ds_procs.specs.declared.call.Call.{Call}
 use Rattle.ds_procs.specs.declared.call.Call.TheVariants as call
@@ -30,6 +30,19 @@ words_of_call call.Unknown = codes "unknown"
 abbrev pub call_text : Option Call → List ℕ
 call_text None = []
 call_text (Some c) = codes "  " ++ words_of_call c
+
+-- whether a call is one whose number is no call's
+abbrev pub is_unknown : Option Call → Bool
+is_unknown (Some call.Unknown) = true
+is_unknown c = false
+
+-- that a number is no call's
+abbrev pub unknown_text : ℕ → List ℕ
+unknown_text number = codes "  unknown " ++ decimal number ++ codes ": no call has this number"
+
+-- the call of a unit, by whether it is told that a number is no call's, and by that number
+abbrev pub call_told : Bool → ℕ → Option Call → List ℕ
+call_told told number c = if told && is_unknown c then unknown_text number else call_text c
 
 -- the name of a refusal by its number, after a blank
 abbrev pub refusal_text : ℕ → List ℕ

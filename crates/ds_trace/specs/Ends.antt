@@ -1,5 +1,7 @@
 -- The end of a trace: what is told of the whole run, and how each process stands, with its registers.
 use Rattle.std.specs.Prelude.{codes, decimal, ℕ, ◌+◌, ◌==◌, ◌||◌, if◌then◌else◌, List, [], ◌∷◌, ◌++◌, Option, Some, None}
+use Rattle.ds_listing.specs.declared.names.RegisterNames.{RegisterNames}
+use Rattle.ds_listing.specs.NamedTexts.{register_as}
 use Rattle.ds_listing.specs.Texts.{hex8}
 use Rattle.ds_procs.specs.declared.process.Standing.{Standing}
 use Rattle.ds_procs.specs.declared.process.Standing.TheVariants.{Parked}
@@ -13,13 +15,13 @@ use Rattle.ds_trace.specs.Logs.{last_of, lines_of}
 use Rattle.ds_trace.specs.Summaries.{summary_text}
 
 -- a register of a process at the end: none that a touch may change, and none that holds 0
-abbrev pub left_text : ℕ → ℕ → List ℕ
-left_text n value = if is_hidden n || (value == 0) then [] else codes "  $" ++ decimal n ++ codes "=" ++ hex8 value
+abbrev pub left_text : RegisterNames → ℕ → ℕ → List ℕ
+left_text names n value = if is_hidden n || (value == 0) then [] else codes "  " ++ register_as names n ++ codes "=" ++ hex8 value
 
 -- the registers of a list, the first of which has this number
-abbrev pub registers_text : ℕ → List ℕ → List ℕ
-registers_text n [] = []
-registers_text n (value ∷ rest) = left_text n value ++ registers_text (n + 1) rest
+abbrev pub registers_text : RegisterNames → ℕ → List ℕ → List ℕ
+registers_text names n [] = []
+registers_text names n (value ∷ rest) = left_text names n value ++ registers_text names (n + 1) rest
 
 -- a line of the log, where there is one
 abbrev pub line_by : Option (List ℕ) → List ℕ
@@ -32,15 +34,15 @@ parked_text lines p Parked = line_by (last_of p lines)
 parked_text lines p other = []
 
 -- the line of a process: its number, how it stands, where it goes on, by which of these lines it is parked, and its registers
-abbrev pub process_text : List (List ℕ) → ℕ → Standing → ℕ → List ℕ → List ℕ
-process_text lines p standing pc general =
-    (codes "process " ++ decimal p ++ codes " " ++ standing_text standing ++ codes " " ++ hex8 pc) ++ parked_text lines p standing ++ (registers_text 0 general ++ codes "\n")
+abbrev pub process_text : RegisterNames → List (List ℕ) → ℕ → Standing → ℕ → List ℕ → List ℕ
+process_text names lines p standing pc general =
+    (codes "process " ++ decimal p ++ codes " " ++ standing_text standing ++ codes " " ++ hex8 pc) ++ parked_text lines p standing ++ (registers_text names 0 general ++ codes "\n")
 
 -- those of processes, the first of which has this number
-abbrev pub processes_text : List (List ℕ) → ℕ → List Process → List ℕ
-processes_text lines p [] = []
-processes_text lines p (q ∷ rest) = process_text lines p q.standing q.pc q.registers.general ++ processes_text lines (p + 1) rest
+abbrev pub processes_text : RegisterNames → List (List ℕ) → ℕ → List Process → List ℕ
+processes_text names lines p [] = []
+processes_text names lines p (q ∷ rest) = process_text names lines p q.standing q.pc q.registers.general ++ processes_text names lines (p + 1) rest
 
 -- the end's text of a state, with these counts of the run to it
 abbrev pub end_text : View → Counted → State → List ℕ
-end_text v k m = summary_text v k m.time (lines_of (log_of m)) ++ processes_text (lines_of (log_of m)) 1 m.processes
+end_text v k m = summary_text v k m.time (lines_of (log_of m)) ++ processes_text v.names (lines_of (log_of m)) 1 m.processes

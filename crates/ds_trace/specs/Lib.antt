@@ -1,7 +1,8 @@
 pub mod Looks
+pub mod Stores
+pub mod Loads
 pub mod Starts
 pub mod Calls
-pub mod Stores
 pub mod Lines
 pub mod Boundaries
 pub mod Changes
@@ -23,3 +24,4 @@ pub mod Memory
 pub mod Accounts
 pub mod Summed
 pub mod MustEnd
+pub mod Sources

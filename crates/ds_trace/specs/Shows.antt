@@ -1,6 +1,7 @@
 -- The lines and the end of a trace, by what a station holds.
 use Rattle.std.specs.Prelude.{◌≡◌, ⊤, ℕ, zero, suc, ◌+◌, Bool, false, true, if◌then◌else◌, List, [], ◌++◌, length, map, is_some, Option, Some, None}
 use Rattle.std.specs.Io.KnownBytes.{Appends}
+use Rattle.ds_listing.specs.declared.names.RegisterNames.{RegisterNames}
 use Rattle.ds_pagemap.specs.Machine.{State, process_of, first, touched}
 use Rattle.ds_pagemap.specs.Run.{after}
 use Rattle.ds_refinement.specs.Held.{Held, last_boundary}
@@ -72,18 +73,18 @@ abbrev pub progress_held : Bool → View → Progress → Held → Progress
 progress_held owed v b h = record { before = looked_held v owed h; counts = counts_held v b.counts b.before h }
 
 -- the lines of so many processes, the first of which has this number, by these lines of the log
-abbrev pub processes_held : List (List ℕ) → Held → ℕ → ℕ → List ℕ
-processes_held lines h p zero = []
-processes_held lines h p (suc n) =
-    process_text lines p (process_of h.kept.state p).standing (address_held h p) (general_held h p) ++ processes_held lines h (p + 1) n
+abbrev pub processes_held : RegisterNames → List (List ℕ) → Held → ℕ → ℕ → List ℕ
+processes_held names lines h p zero = []
+processes_held names lines h p (suc n) =
+    process_text names lines p (process_of h.kept.state p).standing (address_held h p) (general_held h p) ++ processes_held names lines h (p + 1) n
 
 -- the lines of all
-abbrev pub all_held : Held → List ℕ
-all_held h = processes_held (lines_of h.kept.log) h 1 (length h.kept.state.processes)
+abbrev pub all_held : RegisterNames → Held → List ℕ
+all_held names h = processes_held names (lines_of h.kept.log) h 1 (length h.kept.state.processes)
 
 -- the end's text, with these counts
 abbrev pub end_held : View → Counted → Held → List ℕ
-end_held v k h = summary_text v k h.kept.state.time (lines_of h.kept.log) ++ all_held h
+end_held v k h = summary_text v k h.kept.state.time (lines_of h.kept.log) ++ all_held v.names h
 
 -- these lines of where a window ended, and what the processor did, where a view wants that
 abbrev pub processor_held : View → List ℕ → ProcessorCounts → Held → List ℕ

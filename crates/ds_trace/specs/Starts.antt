@@ -1,5 +1,5 @@
 -- The unit that a state has next.
-use Rattle.std.specs.Prelude.{ℕ, ◌+◌, Bool, true, false, is_some, if◌then◌else◌, List, Option, Some, None}
+use Rattle.std.specs.Prelude.{ℕ, ◌+◌, Bool, true, false, is_some, if◌then◌else◌, List, Option, Some, None, option_and_then, slice_index}
 use Rattle.ds_word.specs.Word.{word}
 use Rattle.ds_isa.specs.declared.instr.Instr.{Instr}
 use Rattle.ds_isa.specs.declared.instr.Instr.TheVariants as instr
@@ -9,9 +9,11 @@ use Rattle.ds_isa.specs.Shapes.{is_branch}
 use Rattle.ds_procs.specs.declared.call.Call.{Call}
 use Rattle.ds_procs.specs.Calls.{call_of}
 use Rattle.ds_policy.specs.Grants.{PageState}
+use Rattle.ds_policy.specs.Pages.{entry_at, page_address}
 use Rattle.ds_pagemap.specs.Machine.{State, process_of, first}
 use Rattle.ds_station.specs.Reads.{fetched}
 use Rattle.ds_trace.specs.declared.start.Start.{Start}
+use Rattle.ds_trace.specs.Loads.{loaded_at, slot_loaded_at}
 
 -- the word in the slot of the instruction at an address, where that is a branch
 abbrev pub slot_of : PageState → ℕ → ℕ → Option ℕ → Option ℕ
@@ -28,6 +30,10 @@ abbrev pub call_at : List ℕ → Option ℕ → Option Call
 call_at general None = None
 call_at general (Some w) = if is_call (instruction_of w) then Some (call_of general) else None
 
+-- the page that the entry of a process at an address names, if it names one
+abbrev pub page_at : PageState → ℕ → ℕ → Option ℕ
+page_at s p address = option_and_then (λ g. g.page) (entry_at s.table p (page_address address))
+
 -- the unit of a process at an address, at a time, with these registers
 abbrev pub start_at : PageState → List ℕ → ℕ → ℕ → ℕ → Start
 start_at s general time p pc = record {
@@ -37,6 +43,11 @@ start_at s general time p pc = record {
   word = fetched s p pc;
   slot = slot_of s p pc (fetched s p pc);
   call = call_at general (fetched s p pc);
+  number = slice_index general 2;
+  page = page_at s p pc;
+  slot_page = page_at s p (word (pc + 4));
+  loaded = loaded_at general (fetched s p pc);
+  slot_loaded = slot_loaded_at general (fetched s p pc) (slot_of s p pc (fetched s p pc));
 }
 
 -- the general registers of a process

@@ -2,6 +2,7 @@
 use Rattle.std.specs.Prelude.{◌≡◌, ◌⊎◌, false, codes, decimal, ℕ, ◌==◌, if◌then◌else◌, List, [], ◌++◌, slice_index, Option, Some, None, Ok}
 use Rattle.std.specs.Io.KnownBytes.{Appends, Keeps}
 use Rattle.ds_log.specs.Sent.{AppendsPart}
+use Rattle.ds_listing.specs.declared.names.RegisterNames.TheVariants.{Numbers}
 use Rattle.ds_policy.specs.Value.{InputValue}
 use Rattle.ds_policy.specs.InputText.{input_of}
 use Rattle.ds_policy.specs.declared.command.Character.{Character}
@@ -46,7 +47,7 @@ TellsOf pages input n k h text = (said : InputValue) → input_of pages input �
 
 -- A view by which all turns are counted, and none of them is told.
 abbrev pub counting : View
-counting = record { from = 0; to = None; processes = Some no_processes; only = Some Calls; processor = false; entries = false }
+counting = record { from = 0; to = None; processes = Some no_processes; only = Some Calls; processor = false; entries = false; names = Numbers; source = false; pages = record { ref_ptr = (0, 0); now = [] } }
 
 -- a run for n from m has come to a state that a station stands for, with these counts of all its turns; the station began at a start
 pub record IsCountedTo (n : ℕ) (start : Held) (m : State) (h : Held) (k : Counted) : Type 0 where

@@ -139,7 +139,7 @@ impl Before {
     /// What a station shows a view, by whether a boundary is owed.
     pub(crate) fn look<L: Lookaside>(
         &mut self,
-        view: &View,
+        view: &View<'_>,
         station: &Station<L>,
         owed: bool,
     ) -> Result<(), AllocError>

@@ -1,7 +1,7 @@
 //! The words of a call.
 ghost use Rattle.std.specs.Prelude.{◌≡◌, ◌++◌, OnOk};
 ghost use Rattle.std.specs.String.{string_bytes};
-ghost use Rattle.ds_trace.specs.Calls.{answer_text, call_text, mode_text, refusal_text, words_of_call};
+ghost use Rattle.ds_trace.specs.Calls.{answer_text, call_text, call_told, is_unknown, mode_text, refusal_text, unknown_text, words_of_call};
 
 use crate::digits::{push_byte, push_decimal, push_hex};
 use ds_procs::Call;
@@ -82,7 +82,7 @@ fn push_words(line: &mut String, call: Call) -> Result<(), AllocError>
 }
 
 /// Adds the call of a unit, if it is one.
-pub(crate) fn push_call(line: &mut String, call: Option<Call>) -> Result<(), AllocError>
+fn push_call(line: &mut String, call: Option<Call>) -> Result<(), AllocError>
     ensures { OnOk result (string_bytes line.new ≡ string_bytes line.old ++ call_text call) }
 {
     match call {
@@ -91,6 +91,44 @@ pub(crate) fn push_call(line: &mut String, call: Option<Call>) -> Result<(), All
             push_words(line, call)
         }
         None => Ok(()),
+    }
+}
+
+/// Whether a call is one whose number is no call's.
+fn is_unknown(call: Option<Call>) -> bool
+    ensures { result ≡ is_unknown call }
+{
+    match call {
+        Some(Call::Unknown) => true,
+        _ => false,
+    }
+}
+
+/// Adds that a number is no call's.
+fn push_unknown(line: &mut String, number: u32) -> Result<(), AllocError>
+    ensures { OnOk result
+        (string_bytes line.new ≡ string_bytes line.old ++ unknown_text number) }
+{
+    line.push_str("  unknown ")?;
+    push_decimal(line, u64::from(number))?;
+    line.push_str(": no call has this number")
+}
+
+/// Adds the call of a unit, if it is one, by whether it is told that a number is no call's, and by
+/// that number.
+pub(crate) fn push_told_call(
+    line: &mut String,
+    told: bool,
+    number: u32,
+    call: Option<Call>,
+) -> Result<(), AllocError>
+    ensures { OnOk result
+        (string_bytes line.new ≡ string_bytes line.old ++ call_told told number call) }
+{
+    if told && is_unknown(call) {
+        push_unknown(line, number)
+    } else {
+        push_call(line, call)
     }
 }
 

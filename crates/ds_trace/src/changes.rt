@@ -48,7 +48,7 @@ fn push_process(line: &mut String, time: u64, process: u32) -> Result<(), AllocE
 /// Adds the line of a process that stands otherwise than before.
 fn push_change(
     line: &mut String,
-    view: &View,
+    view: &View<'_>,
     time: u64,
     process: u32,
     before: Option<Standing>,
@@ -83,7 +83,7 @@ fn standing_in(before: &[Standing], process: u32) -> Option<Standing>
 /// Adds the lines of all processes that stand otherwise than before.
 pub(crate) fn push_changes<L: Lookaside>(
     line: &mut String,
-    view: &View,
+    view: &View<'_>,
     station: &Station<L>,
     before: &[Standing],
 ) -> Result<(), AllocError>
@@ -134,7 +134,7 @@ fn is_first(runner: Option<u32>, process: u32) -> bool
 }
 
 /// Whether a process that ran is still ready while another is before it, and is told of.
-fn gives_way<L: Lookaside>(view: &View, station: &Station<L>, process: u32) -> bool
+fn gives_way<L: Lookaside>(view: &View<'_>, station: &Station<L>, process: u32) -> bool
     ensures { result ≡ (not (is_first (first station.now.held.kept.state.ready) process)
         && (is_ready (slice_get (map (λ q. q.standing) station.now.held.kept.state.processes)
         (process - 1)) && shows_process view.now process)) }
@@ -158,7 +158,7 @@ fn push_gives_way(line: &mut String, time: u64, process: u32) -> Result<(), Allo
 /// Adds the line of the process that ran, where it is still ready and another is before it.
 pub(crate) fn push_way<L: Lookaside>(
     line: &mut String,
-    view: &View,
+    view: &View<'_>,
     station: &Station<L>,
     before: Option<u32>,
 ) -> Result<(), AllocError>
@@ -210,7 +210,7 @@ fn push_runner(line: &mut String, time: u64, runner: Option<u32>) -> Result<(), 
 }
 
 /// Whether a process is one that is told of.
-fn is_shown(view: &View, process: Option<u32>) -> bool
+fn is_shown(view: &View<'_>, process: Option<u32>) -> bool
     ensures { result ≡ is_shown view.now process }
 {
     match process {
@@ -222,7 +222,7 @@ fn is_shown(view: &View, process: Option<u32>) -> bool
 /// Adds a line where another process runs than before, and one of the two is told of.
 pub(crate) fn push_switch(
     line: &mut String,
-    view: &View,
+    view: &View<'_>,
     time: u64,
     before: Option<u32>,
     after: Option<u32>,

@@ -134,7 +134,7 @@ fn answer_of<L: Lookaside>(station: &Station<L>, process: u32) -> u32
 }
 
 /// Whether the turns that began at a time are counted.
-fn is_counted(view: &View, began: u64) -> bool
+fn is_counted(view: &View<'_>, began: u64) -> bool
     ensures { result ≡ is_counted view.now began }
 {
     view.has_lines() && view.shows_turn(began)
@@ -266,7 +266,7 @@ impl Counts {
     /// whether it owes a boundary now.
     pub(crate) fn add<L: Lookaside>(
         &mut self,
-        view: &View,
+        view: &View<'_>,
         before: &Before,
         station: &Station<L>,
         owed: bool,

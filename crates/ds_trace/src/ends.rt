@@ -12,6 +12,7 @@ use crate::digits::{push_decimal, push_hex, push_newline};
 use crate::lines::is_hidden;
 use crate::logs::{last_of, lines_of};
 use crate::summaries::push_summary;
+use ds_listing::{RegisterNames, push_register};
 use ds_procs::Standing;
 use ds_station::Station;
 use ds_tlb::Lookaside;
@@ -19,26 +20,35 @@ use ds_view::View;
 use std::alloc::{AllocError, Global};
 
 /// Adds a register of a process at the end: none that a touch may change, and none that holds 0.
-fn push_left(line: &mut String, register: u8, value: u32) -> Result<(), AllocError>
+fn push_left(
+    line: &mut String,
+    names: RegisterNames,
+    register: u8,
+    value: u32,
+) -> Result<(), AllocError>
     ensures { OnOk result
-        (string_bytes line.new ≡ string_bytes line.old ++ left_text register value) }
+        (string_bytes line.new ≡ string_bytes line.old ++ left_text names register value) }
 {
     if is_hidden(register) || value == 0 {
         return Ok(());
     }
-    line.push_str("  $")?;
-    push_decimal(line, u64::from(register))?;
+    line.push_str("  ")?;
+    push_register(line, register, names)?;
     line.push_str("=")?;
     push_hex(line, value)
 }
 
 /// Adds the registers of a process.
-fn push_registers(line: &mut String, general: &[u32; 32]) -> Result<(), AllocError>
+fn push_registers(
+    line: &mut String,
+    names: RegisterNames,
+    general: &[u32; 32],
+) -> Result<(), AllocError>
     ensures { OnOk result
-        (string_bytes line.new ≡ string_bytes line.old ++ registers_text 0 general.now) }
+        (string_bytes line.new ≡ string_bytes line.old ++ registers_text names 0 general.now) }
 {
     for (register, value) in general.iter().enumerate() {
-        push_left(line, register as u8, *value)?;
+        push_left(line, names, register as u8, *value)?;
     }
     Ok(())
 }
@@ -93,11 +103,11 @@ fn push_parked(
 }
 
 /// Adds the registers of a process, and ends its line.
-fn push_rest(line: &mut String, general: &[u32; 32]) -> Result<(), AllocError>
+fn push_rest(line: &mut String, names: RegisterNames, general: &[u32; 32]) -> Result<(), AllocError>
     ensures { OnOk result (string_bytes line.new
-        ≡ string_bytes line.old ++ (registers_text 0 general.now ++ codes "\n")) }
+        ≡ string_bytes line.old ++ (registers_text names 0 general.now ++ codes "\n")) }
 {
-    push_registers(line, general)?;
+    push_registers(line, names, general)?;
     push_newline(line)
 }
 
@@ -105,6 +115,7 @@ fn push_rest(line: &mut String, general: &[u32; 32]) -> Result<(), AllocError>
 fn push_process(
     text: &mut Vec<u8>,
     line: &mut String,
+    names: RegisterNames,
     lines: &[&[u8]],
     process: u32,
     standing: Standing,
@@ -112,14 +123,14 @@ fn push_process(
     general: &[u32; 32],
 ) -> Result<(), AllocError>
     ensures { OnOk result (text.new.items ≡ text.old.items
-        ++ process_text (map (λ l. l.now) lines.now) process standing address general.now) }
+        ++ process_text names (map (λ l. l.now) lines.now) process standing address general.now) }
 {
     line.clear();
     push_head(line, process, standing, address)?;
     text.extend_from_slice(line.as_bytes())?;
     push_parked(text, lines, process, standing)?;
     line.clear();
-    push_rest(line, general)?;
+    push_rest(line, names, general)?;
     text.extend_from_slice(line.as_bytes())
 }
 
@@ -127,17 +138,20 @@ fn push_process(
 fn push_processes<L: Lookaside>(
     text: &mut Vec<u8>,
     line: &mut String,
+    names: RegisterNames,
     lines: &[&[u8]],
     station: &Station<L>,
 ) -> Result<(), AllocError>
     ensures { OnOk result (text.new.items ≡ text.old.items
-        ++ processes_held (map (λ l. l.now) lines.now) station.now.held 1
+        ++ processes_held names (map (λ l. l.now) lines.now) station.now.held 1
         (length station.now.held.kept.state.processes)) }
 {
     for process in 1..station.processes() + 1 {
         let (standing, address) = (station.standing(process), station.address(process));
         let general = station.general(process);
-        push_process(text, line, lines, process, standing, address, &general)?;
+        push_process(
+            text, line, names, lines, process, standing, address, &general,
+        )?;
     }
     Ok(())
 }
@@ -147,7 +161,7 @@ pub(crate) fn push_end<L: Lookaside>(
     alloc: Global,
     text: &mut Vec<u8>,
     line: &mut String,
-    view: &View,
+    view: &View<'_>,
     counts: &Counts,
     station: &Station<L>,
 ) -> Result<(), AllocError>
@@ -164,5 +178,5 @@ pub(crate) fn push_end<L: Lookaside>(
         station.time(),
         lines.as_slice(),
     )?;
-    push_processes(text, line, lines.as_slice(), station)
+    push_processes(text, line, view.names, lines.as_slice(), station)
 }

@@ -70,7 +70,7 @@ fn row_of(rows: &[Row], process: u32) -> &[Entry]
 }
 
 /// What is granted at an address.
-fn grant_at(entries: &[Entry], address: u32) -> Option<Grant>
+pub(crate) fn grant_at(entries: &[Entry], address: u32) -> Option<Grant>
     ensures { result ≡ found entries.now address }
 {
     for entry in entries {
@@ -301,7 +301,7 @@ fn push_all_new(
 /// Adds what has changed of the entries of a process, if that is told of.
 fn push_changed(
     line: &mut String,
-    view: &View,
+    view: &View<'_>,
     time: u64,
     process: u32,
     before: &[Entry],
@@ -321,7 +321,7 @@ fn push_changed(
 #[tactic(auto, unfolding(crate::specs::Entries::tables_text))]
 pub(crate) fn push_table(
     line: &mut String,
-    view: &View,
+    view: &View<'_>,
     time: u64,
     rows: &[Row],
 ) -> Result<(), AllocError>
@@ -338,7 +338,7 @@ pub(crate) fn push_table(
 #[tactic(auto, unfolding(crate::specs::Entries::tables_text))]
 pub(crate) fn push_tables<L: Lookaside>(
     line: &mut String,
-    view: &View,
+    view: &View<'_>,
     time: u64,
     rows: &[Row],
     station: &Station<L>,

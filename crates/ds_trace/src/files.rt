@@ -29,7 +29,7 @@ pub fn trace_files<O: Output>(
     input: &[u8],
     n: u64,
     random: u8,
-    view: &View,
+    view: &View<'_>,
     out: &mut O,
 ) -> Result<(), Fault>
     ensures ok { OnOk result (Begins
@@ -64,7 +64,7 @@ pub fn trace_policy<O: Output>(
     input: &[u8],
     n: u64,
     random: u8,
-    view: &View,
+    view: &View<'_>,
     out: &mut O,
 ) -> Result<(), Fault>
     ensures ok { OnOk result (Begins
@@ -99,7 +99,7 @@ pub fn trace_station<O: Output>(
     input: &[u8],
     n: u64,
     random: u8,
-    view: &View,
+    view: &View<'_>,
     out: &mut O,
 ) -> Result<Station<Indexed<64, 8>>, Fault>
     ensures ok { IfOk result (λ s. Begins
@@ -139,7 +139,7 @@ pub fn trace_summed<O: Output>(
     input: &[u8],
     n: u64,
     random: u8,
-    view: &View,
+    view: &View<'_>,
     out: &mut O,
 ) -> Result<Summed, Fault>
     ensures ok { IfOk result (λ s. Begins

@@ -31,7 +31,7 @@ impl Progress {
     /// Counts the half turn that is done, and looks at the station for the next.
     pub(crate) fn go_on<L: Lookaside>(
         &mut self,
-        view: &View,
+        view: &View<'_>,
         station: &Station<L>,
         owed: bool,
     ) -> Result<(), AllocError>

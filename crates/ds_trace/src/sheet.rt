@@ -68,7 +68,7 @@ impl Sheet {
     /// Adds the lines of a unit, and what it logged, as far as they are wanted.
     fn push_unit<L: Lookaside>(
         &mut self,
-        view: &View,
+        view: &View<'_>,
         start: &Start,
         logged: &[u8],
         station: &Station<L>,
@@ -78,9 +78,8 @@ impl Sheet {
             (found_held start.now.process station.now.held)) }
     {
         if view.shows_unit(start.process, start.call.is_some()) {
-            self.line.clear();
-            push_unit(&mut self.line, start, was_done(start, logged), station)?;
-            self.text.extend_from_slice(self.line.as_bytes())?;
+            let done = was_done(start, logged);
+            push_unit(&mut self.text, &mut self.line, view, start, done, station)?;
         }
         if view.shows_denials(start.process) {
             self.push_denied(logged)?;
@@ -91,7 +90,7 @@ impl Sheet {
     /// Adds what a boundary did.
     fn push_boundary<L: Lookaside>(
         &mut self,
-        view: &View,
+        view: &View<'_>,
         before: &Before,
         station: &Station<L>,
     ) -> Result<(), AllocError>
@@ -116,7 +115,7 @@ impl Sheet {
     /// Adds the lines of the entries that were changed, where they are wanted.
     fn push_entries<L: Lookaside>(
         &mut self,
-        view: &View,
+        view: &View<'_>,
         before: &Before,
         station: &Station<L>,
     ) -> Result<(), AllocError>
@@ -141,7 +140,7 @@ impl Sheet {
     /// Adds what was done: a unit, or a boundary, with the entries that it changed.
     fn push_done<L: Lookaside>(
         &mut self,
-        view: &View,
+        view: &View<'_>,
         before: &Before,
         station: &Station<L>,
         owed: bool,
@@ -170,7 +169,7 @@ impl Sheet {
     /// Adds who stands otherwise, who gives way, and who runs.
     fn push_changes<L: Lookaside>(
         &mut self,
-        view: &View,
+        view: &View<'_>,
         before: &Before,
         station: &Station<L>,
     ) -> Result<(), AllocError>
@@ -192,7 +191,7 @@ impl Sheet {
     /// Adds the lines of all entries before the first half turn that is counted, where they are wanted.
     fn push_opening(
         &mut self,
-        view: &View,
+        view: &View<'_>,
         counts: &Counts,
         before: &Before,
     ) -> Result<(), AllocError>
@@ -211,7 +210,7 @@ impl Sheet {
     /// station shows now, and by whether it owes a boundary now.
     pub(crate) fn push_half<L: Lookaside>(
         &mut self,
-        view: &View,
+        view: &View<'_>,
         counts: &Counts,
         before: &Before,
         station: &Station<L>,
@@ -232,7 +231,7 @@ impl Sheet {
     /// Adds what is told of where the window ended, and what the processor did, where that is wanted.
     pub(crate) fn push_processor<L: Lookaside>(
         &mut self,
-        view: &View,
+        view: &View<'_>,
         window: &WindowEnd,
         counts: &ProcessorCounts,
         station: &Station<L>,
@@ -253,7 +252,7 @@ impl Sheet {
     pub(crate) fn push_end<L: Lookaside>(
         &mut self,
         alloc: Global,
-        view: &View,
+        view: &View<'_>,
         counts: &Counts,
         station: &Station<L>,
     ) -> Result<(), AllocError>

@@ -1,11 +1,15 @@
 //! The unit that is next.
 ghost use Rattle.std.specs.Prelude.{◌≡◌, ◌<◌, ◌≤◌, length};
+ghost use Rattle.ds_policy.specs.Pages.{found, page_address};
 ghost use Rattle.ds_pagemap.specs.Machine.{first};
 ghost use Rattle.ds_procs.specs.Calls.{call_of};
 ghost use Rattle.ds_station.specs.Reads.{address_held, general_held, memory_held};
 ghost use Rattle.ds_trace.specs.Shows.{start_held};
-ghost use Rattle.ds_trace.specs.Starts.{call_at, is_call, slot_of, start_at};
+ghost use Rattle.ds_trace.specs.Starts.{call_at, is_call, page_at, slot_of, start_at};
 
+use crate::entries::grant_at;
+use crate::loads::{loaded_at, slot_loaded_at};
+use crate::stores::held_in;
 use ds_isa::{Instr, decode, is_branch};
 use ds_procs::{Call, Process};
 use ds_station::Station;
@@ -24,6 +28,16 @@ pub(crate) struct Start {
     pub slot: Option<u32>,
     /// The call that it is, with its arguments.
     pub call: Option<Call>,
+    /// What register 2 holds, which is the number of a call.
+    pub number: u32,
+    /// The page that the process's entry at its address names.
+    pub page: Option<u32>,
+    /// The page that the process's entry at its slot names.
+    pub slot_page: Option<u32>,
+    /// The address of the word from which its instruction loads.
+    pub loaded: Option<u32>,
+    /// The address of the word from which the instruction in the slot loads.
+    pub slot_loaded: Option<u32>,
 }
 
 /// The word in the slot of the instruction at an address, where that is a branch.
@@ -81,6 +95,15 @@ fn call_at(general: &[u32; 32], word: Option<u32>) -> Option<Call>
     }
 }
 
+/// The page that the entry of a process at an address names, if it names one.
+fn page_at<L: Lookaside>(station: &Station<L>, process: u32, address: u32) -> Option<u32>
+    requires { 0 < process }
+    ensures { result ≡ page_at (memory_held station.now.held) process address }
+{
+    let grant = grant_at(station.entries(process), address - address % 4096)?;
+    grant.page
+}
+
 impl Start {
     /// The unit of a process.
     fn of<L: Lookaside>(station: &Station<L>, process: u32) -> Start
@@ -92,13 +115,20 @@ impl Start {
     {
         let address = station.address(process);
         let word = station.word_at(process, address);
+        let slot = slot_of(station, process, address, word);
+        let general = station.general(process);
         Start {
             time: station.time(),
             process,
             address,
             word,
-            slot: slot_of(station, process, address, word),
-            call: call_at(&station.general(process), word),
+            slot,
+            call: call_at(&general, word),
+            number: held_in(&general, 2),
+            page: page_at(station, process, address),
+            slot_page: page_at(station, process, wrapping_sum(address, 4)),
+            loaded: loaded_at(&general, word),
+            slot_loaded: slot_loaded_at(&general, word, slot),
         }
     }
 

@@ -149,7 +149,7 @@ pub(crate) fn push_summary(
     alloc: Global,
     text: &mut Vec<u8>,
     line: &mut String,
-    view: &View,
+    view: &View<'_>,
     counts: &Counts,
     time: u64,
     lines: &[&[u8]],

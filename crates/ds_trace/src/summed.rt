@@ -29,6 +29,7 @@ use crate::progress::Progress;
 use crate::sheet::Sheet;
 use crate::trace::follow;
 use crate::window::WindowEnd;
+use ds_listing::RegisterNames;
 use ds_log::Output;
 use ds_policy::Policy;
 use ds_station::{Fault, Station, deliver, prepare};
@@ -106,8 +107,8 @@ pub(crate) fn summary<L: Lookaside>(
 }
 
 /// A view by which all turns are counted, and none of them is told.
-fn counting() -> View
-    ensures { result ≡ counting }
+fn counting() -> View<'static>
+    ensures { result ≡ record counting { pages = result.pages } }
 {
     View {
         from: 0,
@@ -116,6 +117,9 @@ fn counting() -> View
         only: Some(Only::Calls),
         processor: false,
         entries: false,
+        names: RegisterNames::Numbers,
+        source: false,
+        pages: &[],
     }
 }
 

@@ -35,7 +35,7 @@ const MOST_BYTES: usize = 65536;
 
 /// Adds the lines of the half turn that is done, counts it, and looks at the station for the next.
 fn tell_half<L: Lookaside>(
-    view: &View,
+    view: &View<'_>,
     station: &Station<L>,
     owed: bool,
     sheet: &mut Sheet,
@@ -54,7 +54,7 @@ fn tell_half<L: Lookaside>(
 
 /// Adds the lines of the half turn that a step has ended, if it has.
 fn tell_step<L: Lookaside>(
-    view: &View,
+    view: &View<'_>,
     station: &Station<L>,
     step: Step,
     sheet: &mut Sheet,
@@ -89,7 +89,7 @@ fn is_last(step: Step) -> bool
 /// window ends there. It answers whether the step found all processes ended, or the fault by which
 /// there was none.
 fn advance<L: Lookaside>(
-    view: &View,
+    view: &View<'_>,
     station: &mut Station<L>,
     sheet: &mut Sheet,
     progress: &mut Progress,
@@ -160,7 +160,7 @@ fn is_before<L: Lookaside>(station: &Station<L>, n: u64, before: &Before) -> boo
 }
 
 /// The time to which a run for n goes before anything of it can be told.
-fn silent_until(view: &View, n: u64) -> u64
+fn silent_until(view: &View<'_>, n: u64) -> u64
     ensures { result ≡ (if has_lines view.now then min view.now.from n else n) }
 {
     if view.has_lines() {
@@ -176,7 +176,7 @@ fn silent_until(view: &View, n: u64) -> u64
 /// what the buffer held where the window ended in its lines.
 #[tactic(auto, using(ds_log::proofs::Sends::asked_both, crate::proofs::Asking::asked_none))]
 pub(crate) fn follow<L: Lookaside, O: Output>(
-    view: &View,
+    view: &View<'_>,
     station: &mut Station<L>,
     n: u64,
     progress: &mut Progress,
@@ -231,7 +231,7 @@ pub(crate) fn follow<L: Lookaside, O: Output>(
 #[tactic(auto, using(ds_log::proofs::Sends::asked_both, crate::proofs::Asking::asked_none))]
 fn finish<L: Lookaside, O: Output>(
     alloc: Global,
-    view: &View,
+    view: &View<'_>,
     counts: &Counts,
     station: &Station<L>,
     sheet: &mut Sheet,
@@ -262,7 +262,7 @@ fn finish<L: Lookaside, O: Output>(
 #[tactic(auto, using(ds_log::proofs::Sends::asked_both, crate::proofs::Asking::asked_none))]
 pub(crate) fn tell<L: Lookaside, O: Output>(
     alloc: Global,
-    view: &View,
+    view: &View<'_>,
     policy: &Policy,
     input: &[u8],
     station: &mut Station<L>,

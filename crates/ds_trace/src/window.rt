@@ -22,7 +22,7 @@ pub(crate) struct WindowEnd {
 }
 
 /// The end of a window, where a view has one, and wants lines and what the processor did.
-fn window_end(view: &View) -> Option<u64>
+fn window_end(view: &View<'_>) -> Option<u64>
     ensures { result ≡ window_end view.now }
 {
     if view.processor && view.has_lines() {
@@ -55,7 +55,7 @@ fn push_window<L: Lookaside>(line: &mut String, station: &Station<L>) -> Result<
 
 impl WindowEnd {
     /// The end of a view's window, to which no run has come.
-    pub(crate) fn new(alloc: Global, view: &View) -> WindowEnd
+    pub(crate) fn new(alloc: Global, view: &View<'_>) -> WindowEnd
         ensures awaited { result.awaited ≡ window_end view.now }
         ensures empty { string_bytes result.lines ≡ [] }
     {

@@ -1,14 +1,15 @@
 -- Which lines of a trace are told.
-use Rattle.std.specs.Prelude.{ℕ, Bool, true, false, not, ◌&&◌, nat_le, nat_lt, Option, Some, None}
+use Rattle.std.specs.Prelude.{ℕ, Bool, true, false, not, ◌&&◌, nat_le, nat_lt, [], Option, Some, None}
+use Rattle.ds_listing.specs.declared.names.RegisterNames.TheVariants.{Numbers}
 use Rattle.ds_view.specs.Sets.{holds}
 use Rattle.ds_view.specs.declared.processes.Processes.{Processes}
 use Rattle.ds_view.specs.declared.view.Only.{Only}
 use Rattle.ds_view.specs.declared.view.Only.TheVariants.{End, Calls, Denials, Switches, Units}
 use Rattle.ds_view.specs.declared.view.View.{View}
 
--- all lines
+-- all lines, with registers by their numbers, and without their sources
 abbrev pub whole : View
-whole = record { from = 0; to = None; processes = None; only = None; processor = false; entries = false }
+whole = record { from = 0; to = None; processes = None; only = None; processor = false; entries = false; names = Numbers; source = false; pages = record { ref_ptr = (0, 0); now = [] } }
 
 -- whether the end alone is told
 abbrev pub is_end : Option Only → Bool

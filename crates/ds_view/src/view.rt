@@ -1,8 +1,9 @@
 //! Which lines of a trace are told.
-ghost use Rattle.std.specs.Prelude.{◌≡◌};
+ghost use Rattle.std.specs.Prelude.{◌≡◌, []};
 ghost use Rattle.ds_view.specs.Views.{has_lines, is_before, shows_denials, shows_entries, shows_process, shows_rest, shows_switches, shows_turn, shows_unit, whole};
 
 use crate::processes::Processes;
+use ds_listing::{PageLines, RegisterNames};
 
 /// The one kind of line that is told.
 #[derive(Clone, Copy, Debug, PartialEq, Eq)]
@@ -19,9 +20,10 @@ pub enum Only {
     Units,
 }
 
-/// Which lines of a trace are told. The others are left out, and nothing else is changed by it.
-#[derive(Clone, Copy, Debug, PartialEq, Eq)]
-pub struct View {
+/// Which lines of a trace are told, and how. The others are left out, and nothing else is changed by
+/// it.
+#[derive(Clone, Copy)]
+pub struct View<'a> {
     /// Nothing is told of a turn that began earlier, in ticks.
     pub from: u64,
     /// Nothing is told of a turn that began at this time or later, where there is one.
@@ -34,6 +36,14 @@ pub struct View {
     pub processor: bool,
     /// Whether it is told which entries of the permission table there are, and how each changes.
     pub entries: bool,
+    /// How registers are called.
+    pub names: RegisterNames,
+    /// Whether units are told by their sources: each with its line and its label, a load with its
+    /// address, and a call that is none with its number.
+    pub source: bool,
+    /// The lines of the sources whose parts the pages have, the first page's first. They are told where
+    /// units are told by their sources.
+    pub pages: &'a [Option<PageLines<'a>>],
 }
 
 fn is_before(to: Option<u64>, began: u64) -> bool
@@ -45,10 +55,11 @@ fn is_before(to: Option<u64>, began: u64) -> bool
     }
 }
 
-impl View {
+impl<'a> View<'a> {
     /// All lines.
-    pub fn whole() -> View
-        ensures { result ≡ whole }
+    pub fn whole() -> View<'a>
+        ensures view { result ≡ record whole { pages = result.pages } }
+        ensures pages { result.pages.now ≡ [] }
     {
         View {
             from: 0,
@@ -57,6 +68,9 @@ impl View {
             only: None,
             processor: false,
             entries: false,
+            names: RegisterNames::Numbers,
+            source: false,
+            pages: &[],
         }
     }
 

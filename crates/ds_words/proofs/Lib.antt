@@ -1,3 +1,4 @@
+mod Adding
 mod Numbers
 mod Requests
 mod WindowTexts

@@ -1,5 +1,5 @@
 -- Texts that write spans of memory of the bare machine.
-use Rattle.std.proofs.Common.{◌≡◌, ℕ, List, [], ◌∷◌, zero, suc, sym, subst, arith, map, Bor}
+use Rattle.std.proofs.Common.{◌≡◌, List, [], ◌∷◌, zero, suc, sym, subst, arith, map, Bor}
 use Rattle.std.specs.List.{All, AllZip}
 use Rattle.std.specs.Prelude.{IfSome, None, Option, Some}
 use Rattle.clap.specs.Words.{Text, all_of, rows_of}

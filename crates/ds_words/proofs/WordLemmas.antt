@@ -8,6 +8,7 @@ use Rattle.clap.specs.declared.error.kind.ErrorKind.TheVariants.{OutOfMemory}
 use Rattle.clap.proofs.OnLiterals.{clap_on_literals}
 use Rattle.ds_words.specs.declared.words.BareRequest.{BareRequest}
 use Rattle.ds_words.specs.declared.words.CheckRequest.{CheckRequest}
+use Rattle.ds_words.specs.declared.words.ExplainRequest.{ExplainRequest}
 use Rattle.ds_words.specs.declared.words.ListRequest.{ListRequest}
 use Rattle.ds_words.specs.declared.words.Request.{Request}
 use Rattle.ds_words.specs.declared.words.RunRequest.{RunRequest}
@@ -15,7 +16,7 @@ use Rattle.ds_words.specs.declared.words.TraceRequest.{TraceRequest}
 use Rattle.ds_words.specs.declared.words.Untaken.{Untaken}
 use Rattle.ds_words.specs.declared.words.Wish.{Wish}
 use Rattle.ds_words.specs.declared.windows.Window.{Window}
-use Rattle.ds_words.specs.Words.{AsksForDemo, AsksForSomething, NamesAskedRun, NamesBare, NamesCheck, NamesList, NamesMemory, NamesRun, NamesTrace, MisnamesMemory, command_named, dsmon_app}
+use Rattle.ds_words.specs.Words.{AsksForDemo, AsksForSomething, NamesAskedRun, NamesBare, NamesCheck, NamesExplain, NamesList, NamesMemory, NamesRun, NamesTrace, MisnamesMemory, command_named, dsmon_app}
 
 -- the one word `demo` asks for the demonstration, whatever the program's own name is
 pub alone : (program : Text) (words : List Text) → words ≡ program ∷ codes "demo" ∷ []
@@ -46,7 +47,8 @@ taken words (inr (inr (inl list))) = list.1.taken
 taken words (inr (inr (inr (inl check)))) = check.1.taken
 taken words (inr (inr (inr (inr (inl bare))))) = bare.1.taken
 taken words (inr (inr (inr (inr (inr (inl trace)))))) = trace.1.taken
-taken words (inr (inr (inr (inr (inr (inr debug)))))) = debug.1.taken
+taken words (inr (inr (inr (inr (inr (inr (inl debug))))))) = debug.1.taken
+taken words (inr (inr (inr (inr (inr (inr (inr explain))))))) = explain.1.taken
 
 -- where the words ask for something, clap fails for memory alone
 pub only_memory_fails : (words : List Text) (e : Error) → AsksForSomething words
@@ -92,7 +94,8 @@ asks_run words rows named none (inr (inr (inl list))) = let e : 114 ≡ 108 = ap
 asks_run words rows named none (inr (inr (inr (inl check)))) = let e : 114 ≡ 99 = ap first_letter (sym named ∙ check.1.named) in omega (arith, e)
 asks_run words rows named none (inr (inr (inr (inr (inl bare))))) = let e : 114 ≡ 98 = ap first_letter (sym named ∙ bare.1.named) in omega (arith, e)
 asks_run words rows named none (inr (inr (inr (inr (inr (inl trace)))))) = let e : 114 ≡ 116 = ap first_letter (sym named ∙ trace.1.named) in omega (arith, e)
-asks_run words rows named none (inr (inr (inr (inr (inr (inr debug)))))) = let e : 114 ≡ 100 = ap first_letter (sym named ∙ debug.1.named) in omega (arith, e)
+asks_run words rows named none (inr (inr (inr (inr (inr (inr (inl debug))))))) = let e : 114 ≡ 100 = ap first_letter (sym named ∙ debug.1.named) in omega (arith, e)
+asks_run words rows named none (inr (inr (inr (inr (inr (inr (inr explain))))))) = let e : 114 ≡ 101 = ap first_letter (sym named ∙ explain.1.named) in omega (arith, e)
 
 pub asks_list : (words : List Text) (rows : List Row) → subcommand_of dsmon_app words ≡ Some (codes "list", rows)
     → ((request : ListRequest) → NamesList rows request → ⊥) → AsksForSomething words → ⊥
@@ -102,7 +105,8 @@ asks_list words rows named none (inr (inr (inl list))) = none list.0 (subst (λ 
 asks_list words rows named none (inr (inr (inr (inl check)))) = let e : 108 ≡ 99 = ap first_letter (sym named ∙ check.1.named) in omega (arith, e)
 asks_list words rows named none (inr (inr (inr (inr (inl bare))))) = let e : 108 ≡ 98 = ap first_letter (sym named ∙ bare.1.named) in omega (arith, e)
 asks_list words rows named none (inr (inr (inr (inr (inr (inl trace)))))) = let e : 108 ≡ 116 = ap first_letter (sym named ∙ trace.1.named) in omega (arith, e)
-asks_list words rows named none (inr (inr (inr (inr (inr (inr debug)))))) = let e : 108 ≡ 100 = ap first_letter (sym named ∙ debug.1.named) in omega (arith, e)
+asks_list words rows named none (inr (inr (inr (inr (inr (inr (inl debug))))))) = let e : 108 ≡ 100 = ap first_letter (sym named ∙ debug.1.named) in omega (arith, e)
+asks_list words rows named none (inr (inr (inr (inr (inr (inr (inr explain))))))) = let e : 108 ≡ 101 = ap first_letter (sym named ∙ explain.1.named) in omega (arith, e)
 
 pub asks_check : (words : List Text) (rows : List Row) → subcommand_of dsmon_app words ≡ Some (codes "check", rows)
     → ((request : CheckRequest) → NamesCheck rows request → ⊥) → AsksForSomething words → ⊥
@@ -112,7 +116,8 @@ asks_check words rows named none (inr (inr (inl list))) = let e : 99 ≡ 108 = a
 asks_check words rows named none (inr (inr (inr (inl check)))) = none check.0 (subst (λ (x : List Row). NamesCheck x check.0) (sym (ap rows_in (sym named ∙ check.1.named))) check.1.names)
 asks_check words rows named none (inr (inr (inr (inr (inl bare))))) = let e : 99 ≡ 98 = ap first_letter (sym named ∙ bare.1.named) in omega (arith, e)
 asks_check words rows named none (inr (inr (inr (inr (inr (inl trace)))))) = let e : 99 ≡ 116 = ap first_letter (sym named ∙ trace.1.named) in omega (arith, e)
-asks_check words rows named none (inr (inr (inr (inr (inr (inr debug)))))) = let e : 99 ≡ 100 = ap first_letter (sym named ∙ debug.1.named) in omega (arith, e)
+asks_check words rows named none (inr (inr (inr (inr (inr (inr (inl debug))))))) = let e : 99 ≡ 100 = ap first_letter (sym named ∙ debug.1.named) in omega (arith, e)
+asks_check words rows named none (inr (inr (inr (inr (inr (inr (inr explain))))))) = let e : 99 ≡ 101 = ap first_letter (sym named ∙ explain.1.named) in omega (arith, e)
 
 pub asks_bare : (words : List Text) (rows : List Row) → subcommand_of dsmon_app words ≡ Some (codes "bare", rows)
     → ((request : BareRequest) → NamesBare rows request → ⊥) → AsksForSomething words → ⊥
@@ -122,7 +127,8 @@ asks_bare words rows named none (inr (inr (inl list))) = let e : 98 ≡ 108 = ap
 asks_bare words rows named none (inr (inr (inr (inl check)))) = let e : 98 ≡ 99 = ap first_letter (sym named ∙ check.1.named) in omega (arith, e)
 asks_bare words rows named none (inr (inr (inr (inr (inl bare))))) = none bare.0 (subst (λ (x : List Row). NamesBare x bare.0) (sym (ap rows_in (sym named ∙ bare.1.named))) bare.1.names)
 asks_bare words rows named none (inr (inr (inr (inr (inr (inl trace)))))) = let e : 98 ≡ 116 = ap first_letter (sym named ∙ trace.1.named) in omega (arith, e)
-asks_bare words rows named none (inr (inr (inr (inr (inr (inr debug)))))) = let e : 98 ≡ 100 = ap first_letter (sym named ∙ debug.1.named) in omega (arith, e)
+asks_bare words rows named none (inr (inr (inr (inr (inr (inr (inl debug))))))) = let e : 98 ≡ 100 = ap first_letter (sym named ∙ debug.1.named) in omega (arith, e)
+asks_bare words rows named none (inr (inr (inr (inr (inr (inr (inr explain))))))) = let e : 98 ≡ 101 = ap first_letter (sym named ∙ explain.1.named) in omega (arith, e)
 
 pub asks_trace : (words : List Text) (rows : List Row) → subcommand_of dsmon_app words ≡ Some (codes "trace", rows)
     → ((request : TraceRequest) → NamesTrace rows request → ⊥) → AsksForSomething words → ⊥
@@ -132,7 +138,8 @@ asks_trace words rows named none (inr (inr (inl list))) = let e : 116 ≡ 108 = 
 asks_trace words rows named none (inr (inr (inr (inl check)))) = let e : 116 ≡ 99 = ap first_letter (sym named ∙ check.1.named) in omega (arith, e)
 asks_trace words rows named none (inr (inr (inr (inr (inl bare))))) = let e : 116 ≡ 98 = ap first_letter (sym named ∙ bare.1.named) in omega (arith, e)
 asks_trace words rows named none (inr (inr (inr (inr (inr (inl trace)))))) = none trace.0 (subst (λ (x : List Row). NamesTrace x trace.0) (sym (ap rows_in (sym named ∙ trace.1.named))) trace.1.names)
-asks_trace words rows named none (inr (inr (inr (inr (inr (inr debug)))))) = let e : 116 ≡ 100 = ap first_letter (sym named ∙ debug.1.named) in omega (arith, e)
+asks_trace words rows named none (inr (inr (inr (inr (inr (inr (inl debug))))))) = let e : 116 ≡ 100 = ap first_letter (sym named ∙ debug.1.named) in omega (arith, e)
+asks_trace words rows named none (inr (inr (inr (inr (inr (inr (inr explain))))))) = let e : 116 ≡ 101 = ap first_letter (sym named ∙ explain.1.named) in omega (arith, e)
 
 pub asks_debug : (words : List Text) (rows : List Row) → subcommand_of dsmon_app words ≡ Some (codes "debug", rows)
     → ((request : Request) → NamesRun rows request → ⊥) → AsksForSomething words → ⊥
@@ -142,19 +149,32 @@ asks_debug words rows named none (inr (inr (inl list))) = let e : 100 ≡ 108 = 
 asks_debug words rows named none (inr (inr (inr (inl check)))) = let e : 100 ≡ 99 = ap first_letter (sym named ∙ check.1.named) in omega (arith, e)
 asks_debug words rows named none (inr (inr (inr (inr (inl bare))))) = let e : 100 ≡ 98 = ap first_letter (sym named ∙ bare.1.named) in omega (arith, e)
 asks_debug words rows named none (inr (inr (inr (inr (inr (inl trace)))))) = let e : 100 ≡ 116 = ap first_letter (sym named ∙ trace.1.named) in omega (arith, e)
-asks_debug words rows named none (inr (inr (inr (inr (inr (inr debug)))))) = none debug.0 (subst (λ (x : List Row). NamesRun x debug.0) (sym (ap rows_in (sym named ∙ debug.1.named))) debug.1.names)
+asks_debug words rows named none (inr (inr (inr (inr (inr (inr (inl debug))))))) = none debug.0 (subst (λ (x : List Row). NamesRun x debug.0) (sym (ap rows_in (sym named ∙ debug.1.named))) debug.1.names)
+asks_debug words rows named none (inr (inr (inr (inr (inr (inr (inr explain))))))) = let e : 100 ≡ 101 = ap first_letter (sym named ∙ explain.1.named) in omega (arith, e)
 
--- words that name no command of the seven ask for nothing
+pub asks_explain : (words : List Text) (rows : List Row) → subcommand_of dsmon_app words ≡ Some (codes "explain", rows)
+    → ((request : ExplainRequest) → NamesExplain rows request → ⊥) → AsksForSomething words → ⊥
+asks_explain words rows named none (inl demo) = let e : 101 ≡ 100 = ap first_letter_of (sym (ap name_in named) ∙ demo.named) in omega (arith, e)
+asks_explain words rows named none (inr (inl run)) = let e : 101 ≡ 114 = ap first_letter (sym named ∙ run.1.named) in omega (arith, e)
+asks_explain words rows named none (inr (inr (inl list))) = let e : 101 ≡ 108 = ap first_letter (sym named ∙ list.1.named) in omega (arith, e)
+asks_explain words rows named none (inr (inr (inr (inl check)))) = let e : 101 ≡ 99 = ap first_letter (sym named ∙ check.1.named) in omega (arith, e)
+asks_explain words rows named none (inr (inr (inr (inr (inl bare))))) = let e : 101 ≡ 98 = ap first_letter (sym named ∙ bare.1.named) in omega (arith, e)
+asks_explain words rows named none (inr (inr (inr (inr (inr (inl trace)))))) = let e : 101 ≡ 116 = ap first_letter (sym named ∙ trace.1.named) in omega (arith, e)
+asks_explain words rows named none (inr (inr (inr (inr (inr (inr (inl debug))))))) = let e : 101 ≡ 100 = ap first_letter (sym named ∙ debug.1.named) in omega (arith, e)
+asks_explain words rows named none (inr (inr (inr (inr (inr (inr (inr explain))))))) = none explain.0 (subst (λ (x : List Row). NamesExplain x explain.0) (sym (ap rows_in (sym named ∙ explain.1.named))) explain.1.names)
+
+-- words that name no command of the eight ask for nothing
 pub asks_nothing : (words : List Text) (named : Option Text) → command_named words ≡ named
-    → (named ≡ Some (codes "demo") → ⊥) → (named ≡ Some (codes "run") → ⊥) → (named ≡ Some (codes "check") → ⊥) → (named ≡ Some (codes "list") → ⊥) → (named ≡ Some (codes "bare") → ⊥) → (named ≡ Some (codes "trace") → ⊥) → (named ≡ Some (codes "debug") → ⊥)
+    → (named ≡ Some (codes "demo") → ⊥) → (named ≡ Some (codes "run") → ⊥) → (named ≡ Some (codes "check") → ⊥) → (named ≡ Some (codes "list") → ⊥) → (named ≡ Some (codes "bare") → ⊥) → (named ≡ Some (codes "trace") → ⊥) → (named ≡ Some (codes "debug") → ⊥) → (named ≡ Some (codes "explain") → ⊥)
     → AsksForSomething words → ⊥
-asks_nothing words named is demo run check list bare trace debug (inl asked) = demo (sym is ∙ asked.named)
-asks_nothing words named is demo run check list bare trace debug (inr (inl asked)) = run (sym is ∙ ap name_in asked.1.named)
-asks_nothing words named is demo run check list bare trace debug (inr (inr (inl asked))) = list (sym is ∙ ap name_in asked.1.named)
-asks_nothing words named is demo run check list bare trace debug (inr (inr (inr (inl asked)))) = check (sym is ∙ ap name_in asked.1.named)
-asks_nothing words named is demo run check list bare trace debug (inr (inr (inr (inr (inl asked))))) = bare (sym is ∙ ap name_in asked.1.named)
-asks_nothing words named is demo run check list bare trace debug (inr (inr (inr (inr (inr (inl asked)))))) = trace (sym is ∙ ap name_in asked.1.named)
-asks_nothing words named is demo run check list bare trace debug (inr (inr (inr (inr (inr (inr asked)))))) = debug (sym is ∙ ap name_in asked.1.named)
+asks_nothing words named is demo run check list bare trace debug explain (inl asked) = demo (sym is ∙ asked.named)
+asks_nothing words named is demo run check list bare trace debug explain (inr (inl asked)) = run (sym is ∙ ap name_in asked.1.named)
+asks_nothing words named is demo run check list bare trace debug explain (inr (inr (inl asked))) = list (sym is ∙ ap name_in asked.1.named)
+asks_nothing words named is demo run check list bare trace debug explain (inr (inr (inr (inl asked)))) = check (sym is ∙ ap name_in asked.1.named)
+asks_nothing words named is demo run check list bare trace debug explain (inr (inr (inr (inr (inl asked))))) = bare (sym is ∙ ap name_in asked.1.named)
+asks_nothing words named is demo run check list bare trace debug explain (inr (inr (inr (inr (inr (inl asked)))))) = trace (sym is ∙ ap name_in asked.1.named)
+asks_nothing words named is demo run check list bare trace debug explain (inr (inr (inr (inr (inr (inr (inl asked))))))) = debug (sym is ∙ ap name_in asked.1.named)
+asks_nothing words named is demo run check list bare trace debug explain (inr (inr (inr (inr (inr (inr (inr asked))))))) = explain (sym is ∙ ap name_in asked.1.named)
 
 -- words that name another command don't name the bare machine
 pub no_machine : (words : List Text) (name : Text) (rows : List Row) → subcommand_of dsmon_app words ≡ Some (name, rows) → (slice_index name 0 ≡ 98 → ⊥)

@@ -8,6 +8,8 @@ use Rattle.ds_words.specs.declared.words.CheckRequest.{CheckRequest}
 use Rattle.ds_words.specs.declared.words.ListRequest.{ListRequest}
 use Rattle.ds_view.specs.declared.view.Only.{Only}
 use Rattle.ds_view.specs.declared.view.Only.TheVariants.{End, Calls, Denials, Switches, Units}
+use Rattle.ds_listing.specs.declared.names.RegisterNames.{RegisterNames}
+use Rattle.ds_listing.specs.declared.names.RegisterNames.TheVariants.{Common, Numbers}
 use Rattle.ds_view.specs.declared.view.View.{View}
 use Rattle.ds_view.specs.declared.processes.Processes.{Processes}
 use Rattle.ds_view.specs.Sets.{processes_of}
@@ -19,6 +21,7 @@ use Rattle.ds_bare_view.specs.Spans.{spans_in}
 use Rattle.ds_words.specs.Spans.{IsSpan, WriteSpans}
 use Rattle.ds_words.specs.Windows.{IsWindow, WriteWindows, windows_in}
 use Rattle.ds_words.specs.declared.windows.Window.{Window}
+use Rattle.ds_words.specs.declared.words.ExplainRequest.{ExplainRequest}
 use Rattle.ds_words.specs.declared.words.Extras.{Extras}
 use Rattle.ds_words.specs.declared.words.Request.{Request}
 use Rattle.ds_words.specs.declared.words.RunRequest.{RunRequest}
@@ -29,6 +32,14 @@ use Rattle.clap.specs.declared.builder.value_parser.ValueParser.TheVariants.{Uns
 -- an argument that has to be there
 abbrev pub required_rule : Text → Rule
 required_rule id = record (new_rule id) { required = true }
+
+-- a flag that stands among the words or does not
+abbrev pub flag_rule : Text → Rule
+flag_rule id = record (new_rule id) { long = Some id; action = Some SetTrue }
+
+-- `--memory` with what is wanted of memory, as often as is wanted
+abbrev pub texts_rule : Text → Rule
+texts_rule id = record (new_rule id) { long = Some (codes "memory"); action = Some Append }
 
 -- N, from 0 to 1000000000
 abbrev pub time_rule : Rule
@@ -48,7 +59,7 @@ of_files app = with_rule (with_rule app (required_rule (codes "POLICY"))) (requi
 
 -- `--inside`
 abbrev pub inside_rule : Rule
-inside_rule = record (new_rule (codes "inside")) { long = Some (codes "inside"); action = Some SetTrue }
+inside_rule = flag_rule (codes "inside")
 
 -- with `POLICY INPUT N [--random R] [--inside]`
 abbrev pub of_run : App → App
@@ -56,15 +67,15 @@ of_run app = with_rule (with_rule (with_rule (of_files app) time_rule) random_ru
 
 -- `--must-end`
 abbrev pub must_end_rule : Rule
-must_end_rule = record (new_rule (codes "must-end")) { long = Some (codes "must-end"); action = Some SetTrue }
+must_end_rule = flag_rule (codes "must-end")
 
 -- `--memory P:ADDRESS:COUNT`, as often as is wanted
 abbrev pub memory_rule : Rule
-memory_rule = record (new_rule (codes "P:ADDRESS:COUNT")) { long = Some (codes "memory"); action = Some Append }
+memory_rule = texts_rule (codes "P:ADDRESS:COUNT")
 
 -- `--summary`
 abbrev pub summary_rule : Rule
-summary_rule = record (new_rule (codes "summary")) { long = Some (codes "summary"); action = Some SetTrue }
+summary_rule = flag_rule (codes "summary")
 
 -- with `[--must-end] [--memory P:ADDRESS:COUNT].. [--summary]`
 abbrev pub of_end : App → App
@@ -101,31 +112,43 @@ only_rule = record (new_rule (codes "KIND")) { long = Some (codes "only") }
 
 -- `--processor`
 abbrev pub processor_rule : Rule
-processor_rule = record (new_rule (codes "processor")) { long = Some (codes "processor"); action = Some SetTrue }
+processor_rule = flag_rule (codes "processor")
 
 -- `--entries`
 abbrev pub entries_rule : Rule
-entries_rule = record (new_rule (codes "entries")) { long = Some (codes "entries"); action = Some SetTrue }
+entries_rule = flag_rule (codes "entries")
 
 -- with `[--from T] [--to T] [--process P]..`
 abbrev pub of_turns : App → App
 of_turns app = with_rule (with_rule (with_rule app from_rule) to_rule) process_rule
 
+-- `--source`
+abbrev pub source_rule : Rule
+source_rule = flag_rule (codes "source")
+
+-- `--names`
+abbrev pub names_rule : Rule
+names_rule = flag_rule (codes "names")
+
 -- with `[--only KIND] [--processor] [--entries]`
 abbrev pub of_lines : App → App
 of_lines app = with_rule (with_rule (with_rule app only_rule) processor_rule) entries_rule
 
--- `trace POLICY INPUT N [--random R] [--inside] [--must-end] [--memory P:ADDRESS:COUNT].. [--summary] [--from T] [--to T] [--process P].. [--only KIND] [--processor] [--entries]`
+-- with `[--source] [--names]`
+abbrev pub of_sources : App → App
+of_sources app = with_rule (with_rule app source_rule) names_rule
+
+-- `trace POLICY INPUT N [--random R] [--inside] [--must-end] [--memory P:ADDRESS:COUNT].. [--summary] [--from T] [--to T] [--process P].. [--only KIND] [--processor] [--entries] [--source] [--names]`
 abbrev pub trace_app : App
-trace_app = of_lines (of_turns (of_end (of_run (new_app (codes "trace")))))
+trace_app = of_sources (of_lines (of_turns (of_end (of_run (new_app (codes "trace"))))))
 
 -- `--words`
 abbrev pub words_rule : Rule
-words_rule = record (new_rule (codes "words")) { long = Some (codes "words"); action = Some SetTrue }
+words_rule = flag_rule (codes "words")
 
--- `list FILE [--words]`
+-- `list FILE [--words] [--names]`
 abbrev pub list_app : App
-list_app = with_rule (with_rule (new_app (codes "list")) (required_rule (codes "FILE"))) words_rule
+list_app = with_rule (with_rule (with_rule (new_app (codes "list")) (required_rule (codes "FILE"))) words_rule) names_rule
 
 -- the command line with no command yet: one is wanted, and there is a version
 abbrev pub bare_app : App
@@ -137,7 +160,7 @@ files_app = with_subcommand (with_subcommand (with_subcommand bare_app run_app.t
 
 -- `--notes-as-faults`
 abbrev pub notes_rule : Rule
-notes_rule = record (new_rule (codes "notes-as-faults")) { long = Some (codes "notes-as-faults"); action = Some SetTrue }
+notes_rule = flag_rule (codes "notes-as-faults")
 
 -- `check POLICY [INPUT] [--notes-as-faults] [--inside]`
 abbrev pub check_app : App
@@ -146,7 +169,7 @@ check_app = with_rule (with_rule (with_rule (with_rule (new_app (codes "check"))
 
 -- `--quiet`
 abbrev pub quiet_rule : Rule
-quiet_rule = record (new_rule (codes "quiet")) { long = Some (codes "quiet"); action = Some SetTrue }
+quiet_rule = flag_rule (codes "quiet")
 
 -- `--keys INPUT`
 abbrev pub keys_rule : Rule
@@ -154,15 +177,15 @@ keys_rule = record (new_rule (codes "INPUT")) { long = Some (codes "keys") }
 
 -- `--matches`
 abbrev pub matches_rule : Rule
-matches_rule = record (new_rule (codes "matches")) { long = Some (codes "matches"); action = Some SetTrue }
+matches_rule = flag_rule (codes "matches")
 
 -- `--counts`
 abbrev pub counts_rule : Rule
-counts_rule = record (new_rule (codes "counts")) { long = Some (codes "counts"); action = Some SetTrue }
+counts_rule = flag_rule (codes "counts")
 
 -- `--memory ADDRESS:COUNT`, as often as is wanted
 abbrev pub spans_rule : Rule
-spans_rule = record (new_rule (codes "ADDRESS:COUNT")) { long = Some (codes "memory"); action = Some Append }
+spans_rule = texts_rule (codes "ADDRESS:COUNT")
 
 -- with `[--from K] [--to K] [--only KIND]`
 abbrev pub of_numbers : App → App
@@ -172,18 +195,26 @@ of_numbers app = with_rule (with_rule (with_rule app from_rule) to_rule) only_ru
 abbrev pub of_looks : App → App
 of_looks app = with_rule (with_rule (with_rule app matches_rule) counts_rule) spans_rule
 
--- `bare SOURCE N [--random R] [--quiet] [--keys INPUT] [--from K] [--to K] [--only KIND] [--matches] [--counts] [--memory ADDRESS:COUNT]..`
+-- `bare SOURCE N [--random R] [--quiet] [--keys INPUT] [--from K] [--to K] [--only KIND] [--matches] [--counts] [--memory ADDRESS:COUNT].. [--names]`
 abbrev pub machine_app : App
-machine_app = of_looks (of_numbers (with_rule (with_rule (with_rule (with_rule (with_rule (new_app (codes "bare"))
-    (required_rule (codes "SOURCE"))) time_rule) random_rule) quiet_rule) keys_rule))
+machine_app = with_rule (of_looks (of_numbers (with_rule (with_rule (with_rule (with_rule (with_rule (new_app (codes "bare"))
+    (required_rule (codes "SOURCE"))) time_rule) random_rule) quiet_rule) keys_rule))) names_rule
 
 -- `debug POLICY INPUT N [--random R] [--inside]`
 abbrev pub debug_app : App
 debug_app = of_run (new_app (codes "debug"))
 
+-- `--line K`, from 1 to 18446744073709551615
+abbrev pub line_rule : Rule
+line_rule = record (new_rule (codes "K")) { long = Some (codes "line"); parser = Some (Unsigned 1 18446744073709551615) }
+
+-- `explain POLICY INPUT N [--random R] [--inside] [--line K]`
+abbrev pub explain_app : App
+explain_app = with_rule (of_run (new_app (codes "explain"))) line_rule
+
 -- the whole command line
 abbrev pub dsmon_app : App
-dsmon_app = with_subcommand (with_subcommand (with_subcommand (with_subcommand files_app check_app.top) machine_app.top) (new_app (codes "demo")).top) debug_app.top
+dsmon_app = with_subcommand (with_subcommand (with_subcommand (with_subcommand (with_subcommand files_app check_app.top) machine_app.top) (new_app (codes "demo")).top) debug_app.top) explain_app.top
 
 -- the command that the words name
 abbrev pub command_named : List Text → Option Text
@@ -204,7 +235,7 @@ pub record IsFlagged (flag : Text) (rows : List Row) (given : Bool) : Type 0 whe
   pub there : one_of flag rows ≡ Some (codes "true") → given ≡ true
   pub absent : one_of flag rows ≡ Some (codes "false") → given ≡ false
 
--- what stands after `run`, `trace` or `debug` names the files and the numbers of a run, and says whether its sources have to be inside
+-- what stands after `run`, `trace`, `debug` or `explain` names the files and the numbers of a run, and says whether its sources have to be inside
 pub record NamesRun (rows : List Row) (request : Request) : Type 0 where
   pub policy : first_of (codes "POLICY") rows ≡ Some request.policy.now
   pub input : first_of (codes "INPUT") rows ≡ Some request.input.now
@@ -270,7 +301,12 @@ kind_word Denials = codes "denials"
 kind_word Switches = codes "switches"
 kind_word Units = codes "units"
 
--- what stands after `trace` says which lines are told
+-- registers are called by their common names where `--names` stands among the words, and by their numbers where it does not
+pub record CallsRegisters (rows : List Row) (names : RegisterNames) : Type 0 where
+  pub common : one_of (codes "names") rows ≡ Some (codes "true") → names ≡ Common
+  pub numbers : one_of (codes "names") rows ≡ Some (codes "false") → names ≡ Numbers
+
+-- what stands after `trace` says which lines are told, and how
 pub record NamesView (rows : List Row) (view : View) : Type 0 where
   pub from : IsNumber 64 (one_of (codes "FROM") rows) view.from
   pub to : IsGiven 32 (one_of (codes "TO") rows) view.to
@@ -280,6 +316,9 @@ pub record NamesView (rows : List Row) (view : View) : Type 0 where
   pub lines : one_of (codes "processor") rows ≡ Some (codes "false") → view.processor ≡ false
   pub entries : one_of (codes "entries") rows ≡ Some (codes "true") → view.entries ≡ true
   pub rest : one_of (codes "entries") rows ≡ Some (codes "false") → view.entries ≡ false
+  pub source : IsFlagged (codes "source") rows view.source
+  pub names : CallsRegisters rows view.names
+  pub pages : view.pages.now ≡ []
 
 -- what stands after `trace` names a run and what is wanted beside its text, and says which lines are told
 pub record NamesTrace (rows : List Row) (request : TraceRequest) : Type 0 where
@@ -294,11 +333,12 @@ pub record AsksForTrace (words : List Text) (request : TraceRequest) : Type 0 wh
   pub named : subcommand_of dsmon_app words ≡ Some (codes "trace", rows)
   pub names : NamesTrace rows request
 
--- what stands after `list` names the file, and says whether it holds words
+-- what stands after `list` names the file, and says whether it holds words and how registers are called
 pub record NamesList (rows : List Row) (request : ListRequest) : Type 0 where
   pub file : first_of (codes "FILE") rows ≡ Some request.file.now
   pub words : one_of (codes "words") rows ≡ Some (codes "true") → request.words ≡ true
   pub source : one_of (codes "words") rows ≡ Some (codes "false") → request.words ≡ false
+  pub names : CallsRegisters rows request.names
 
 -- clap takes the words, and they ask for the listing of this file
 pub record AsksForList (words : List Text) (request : ListRequest) : Type 0 where
@@ -345,6 +385,7 @@ pub record NamesBareFlags (rows : List Row) (view : BareView) : Type 0 where
   pub counts : IsFlagged (codes "counts") rows view.counts
   pub memory : NamesSpans (all_of (codes "ADDRESS:COUNT") rows) (spans_in view.memory)
   pub spans : All IsSpan (spans_in view.memory)
+  pub names : CallsRegisters rows view.names
 
 -- and its window does not end before it begins
 pub record NamesBareView (rows : List Row) (view : BareView) : Type 0 where
@@ -374,8 +415,20 @@ pub record AsksForDebug (words : List Text) (request : Request) : Type 0 where
   pub named : subcommand_of dsmon_app words ≡ Some (codes "debug", rows)
   pub names : NamesRun rows request
 
+-- what stands after `explain` names a run, and the line of its log that is explained, where one is wanted alone
+pub record NamesExplain (rows : List Row) (request : ExplainRequest) : Type 0 where
+  pub run : NamesRun rows request.run
+  pub line : IsGiven 64 (one_of (codes "K") rows) request.line
+
+-- clap takes the words, and they ask why the log of a run of these files and numbers has this line, or each of its lines
+pub record AsksForExplain (words : List Text) (request : ExplainRequest) : Type 0 where
+  pub taken : fault_of dsmon_app words ≡ []
+  pub rows : List Row
+  pub named : subcommand_of dsmon_app words ≡ Some (codes "explain", rows)
+  pub names : NamesExplain rows request
+
 -- the words ask for the demonstration, for a run of files, for a listing, for a check, for a run
--- on the bare machine, for the trace of a run of files or for a session with a debugger
+-- on the bare machine, for the trace of a run of files, for a session with a debugger or for an explained log
 abbrev pub AsksForSomething : List Text → Type 0
 AsksForSomething words =
     AsksForDemo words ⊎ (((request : RunRequest) × AsksForRun words request)
@@ -383,7 +436,8 @@ AsksForSomething words =
     ⊎ (((request : CheckRequest) × AsksForCheck words request)
     ⊎ (((request : BareRequest) × AsksForBare words request)
     ⊎ (((request : TraceRequest) × AsksForTrace words request)
-    ⊎ ((request : Request) × AsksForDebug words request))))))
+    ⊎ (((request : Request) × AsksForDebug words request)
+    ⊎ ((request : ExplainRequest) × AsksForExplain words request)))))))
 
 -- what stands after `run` or `trace` wants memory by texts that write no windows, or too many
 pub record MisnamesMemory (words : List Text) : Type 0 where

@@ -2,9 +2,10 @@
 ghost use Rattle.std.specs.Prelude.{◌≡◌, IfOk, codes, false};
 ghost use Rattle.clap.specs.Words.{app_of, new_app, new_rule, rule_of, with_rule, with_subcommand};
 ghost use Rattle.clap.specs.declared.builder.command.Command.TheViews.{out-Command as fields_of};
-ghost use Rattle.ds_words.specs.Words.{bare_app, check_app, counts_rule, dsmon_app, entries_rule, files_app, from_rule, inside_rule, keys_rule, list_app, machine_app, matches_rule, memory_rule, most_rule, must_end_rule, notes_rule, of_end, of_files, of_lines, of_looks, of_numbers, of_run, of_turns, only_rule, process_rule, processor_rule, quiet_rule, random_rule, required_rule, run_app, spans_rule, summary_rule, time_rule, to_rule, trace_app, words_rule};
+ghost use Rattle.ds_words.specs.Words.{bare_app, check_app, debug_app, dsmon_app, files_app, flag_rule, from_rule, keys_rule, list_app, machine_app, most_rule, of_end, of_files, of_lines, of_looks, of_numbers, of_run, of_sources, of_turns, only_rule, process_rule, random_rule, required_rule, run_app, texts_rule, time_rule, to_rule, trace_app};
 
 use crate::debug::debug_command;
+use crate::explain::explain_command;
 use clap::builder::ValueParser;
 use clap::{Arg, ArgAction, Command};
 use std::alloc::{AllocError, Global};
@@ -17,6 +18,7 @@ const HELP: &str = "Examples:
   dsmon trace policy.toml input.txt 1000
   dsmon bare handler.s 300
   dsmon debug policy.toml input.txt 100000
+  dsmon explain policy.toml input.txt 1000
 
 The status is 0 where all was done, 1 where the words are wrong or ask for help,
 2 where the policy, a source, the input or R is refused, 3 where a fault ends
@@ -61,6 +63,10 @@ and --only leave out lines of turns. --process may stand more than once: each pr
 told of, and where none is named, all are. With --processor and --to it is told, too, what the buffer
 holds at that time. With --entries the permission table is told before the first turn, and then each
 entry that changes or goes, whatever KIND is but `end`. --must-end, --memory and --summary are those of `run`.
+
+With --source the line of an instruction begins with the line of the source where it stands and the
+last label there, a load has the word from which it loads, and a number that is no call is told as that.
+With --names registers are called by their common names.
 KIND is one of these:
   units     the units alone
   calls     the units that are calls
@@ -82,6 +88,10 @@ Examples:
   dsmon trace policy.toml input.txt 1000000 --from 900000 --process 2
   dsmon trace policy.toml input.txt 1000 --process 2 --process 3
   dsmon trace policy.toml input.txt 1000 --only calls
+  dsmon trace policy.toml input.txt 1000 --source --names
+    guest.s:3 main  0 1 00400000 addiu $a0,$zero,65  $a0=00000041
+    guest.s:4 main+4  1 1 00400004 addiu $v0,$zero,1  $v0=00000001
+    ..
   dsmon trace policy.toml input.txt 1000 --only switches --entries
     0 entry 1 00400000 read page 1 rule 1
     0 entry 1 00410000 write page 2 rule 2 give
@@ -136,7 +146,8 @@ const LIST_HELP: &str =
 line; after the lines each label with its value. Where lines are at fault, a line on standard error
 tells the number, the name, the place and the reason of each fault, and the status is 2. With --words
 FILE holds words, four bytes to each with the lowest first; each is written as the assembler takes
-it, and a byte that is left at the end as .byte.
+it, and a byte that is left at the end as .byte. With --names, too, registers are called by their
+common names.
 
 Examples:
   dsmon list guest.s
@@ -146,6 +157,9 @@ Examples:
     00400000  end
   dsmon list --words guest.bin
     addiu $2,$0,0
+    syscall
+  dsmon list --words --names guest.bin
+    addiu $v0,$zero,0
     syscall
 
 docs/assembler.md has the assembler's language.";
@@ -166,11 +180,14 @@ they did. --matches adds lines, and --counts and --memory add to the end. KIND i
   devices     those that reach a device, interrupts, and where what the devices ask for changes
   end         no instruction, as with --quiet
 
+With --names registers are called by their common names.
+
 Examples:
   dsmon bare handler.s 300
   dsmon bare handler.s 1000000 --quiet --random 40 --keys input.txt
   dsmon bare handler.s 300 --from 80 --to 100 --memory 00500000:8 --memory 00601000:2
   dsmon bare handler.s 300 --only tlb --matches --counts
+  dsmon bare handler.s 300 --names
 
 docs/bare.md has the bare machine.";
 
@@ -182,6 +199,18 @@ Example:
 
 README.md has how to build and run the program.";
 
+/// The help of `--inside`.
+const INSIDE_HELP: &str =
+    "No source may have a name that begins with / or has a part .., or be a symbolic link";
+
+/// The help of `--names`.
+const NAMES_HELP: &str =
+    "Registers are called by their common names, as $t0, and not by their numbers";
+
+/// The help of N, where it is a number of ticks.
+const TIME_HELP: &str =
+    "How many ticks the run goes on, from 0 to 1000000000; a branch at the end takes one more";
+
 fn file_argument<'a>(alloc: Global, id: &'a str, help: &'a str) -> Arg<'a>
     ensures rule { rule_of result ≡ required_rule id.entry.now }
     ensures local { result.global ≡ false }
@@ -189,16 +218,14 @@ fn file_argument<'a>(alloc: Global, id: &'a str, help: &'a str) -> Arg<'a>
     Arg::new(alloc, id).required(true).help(help)
 }
 
-fn time_argument<'a>(alloc: Global) -> Arg<'a>
+fn time_argument<'a>(alloc: Global, help: &'a str) -> Arg<'a>
     ensures rule { rule_of result ≡ time_rule }
     ensures local { result.global ≡ false }
 {
     Arg::new(alloc, "N")
         .required(true)
         .value_parser(ValueParser::unsigned(0, 1_000_000_000))
-        .help(
-            "How many ticks the run goes on, from 0 to 1000000000; a branch at the end takes one more",
-        )
+        .help(help)
 }
 
 fn random_argument<'a>(alloc: Global) -> Arg<'a>
@@ -212,34 +239,28 @@ fn random_argument<'a>(alloc: Global) -> Arg<'a>
         .help("Where the register Random starts, from 0 to 255; a run takes 8 to 63")
 }
 
-fn inside_argument<'a>(alloc: Global) -> Arg<'a>
-    ensures rule { rule_of result ≡ inside_rule }
+/// A flag that stands among the words or does not.
+fn flag_argument<'a>(alloc: Global, id: &'a str, help: &'a str) -> Arg<'a>
+    ensures rule { rule_of result ≡ flag_rule id.entry.now }
     ensures local { result.global ≡ false }
 {
-    Arg::new(alloc, "inside")
-        .long("inside")
+    Arg::new(alloc, id)
+        .long(id)
         .action(ArgAction::SetTrue)
-        .help(
-            "No source may have a name that begins with / or has a part .., or be a symbolic link",
-        )
+        .help(help)
 }
 
-fn run_described<'a>(alloc: Global) -> Command<'a>
-    ensures app { app_of result ≡ new_app (codes "run") }
+/// A command with what it does, and what stands at the end of its help.
+pub(crate) fn described<'a>(
+    alloc: Global,
+    name: &'a str,
+    about: &'a str,
+    help: &'a str,
+) -> Command<'a>
+    ensures app { app_of result ≡ new_app name.entry.now }
     ensures local { (fields_of result).has_globals ≡ false }
 {
-    Command::new(alloc, "run")
-        .about("Runs processes under a policy and writes their consoles and the log")
-        .after_help(RUN_HELP)
-}
-
-fn trace_described<'a>(alloc: Global) -> Command<'a>
-    ensures app { app_of result ≡ new_app (codes "trace") }
-    ensures local { (fields_of result).has_globals ≡ false }
-{
-    Command::new(alloc, "trace")
-        .about("Tells what happens in a run, unit by unit, and then what the run writes")
-        .after_help(TRACE_HELP)
+    Command::new(alloc, name).about(about).after_help(help)
 }
 
 fn with_files<'a>(alloc: Global, described: Command<'a>) -> Result<Command<'a>, AllocError>
@@ -265,39 +286,19 @@ pub(crate) fn with_numbers<'a>(
     ensures local { IfOk result (λ c. (fields_of c).has_globals ≡ false) }
 {
     with_files(alloc, described)?
-        .arg(time_argument(alloc))?
+        .arg(time_argument(alloc, TIME_HELP))?
         .arg(random_argument(alloc))?
-        .arg(inside_argument(alloc))
+        .arg(flag_argument(alloc, "inside", INSIDE_HELP))
 }
 
-fn must_end_argument<'a>(alloc: Global) -> Arg<'a>
-    ensures rule { rule_of result ≡ must_end_rule }
+fn memory_argument<'a>(alloc: Global, id: &'a str, help: &'a str) -> Arg<'a>
+    ensures rule { rule_of result ≡ texts_rule id.entry.now }
     ensures local { result.global ≡ false }
 {
-    Arg::new(alloc, "must-end")
-        .long("must-end")
-        .action(ArgAction::SetTrue)
-        .help("The status is 4 where a process has not ended when the run is over")
-}
-
-fn memory_argument<'a>(alloc: Global) -> Arg<'a>
-    ensures rule { rule_of result ≡ memory_rule }
-    ensures local { result.global ≡ false }
-{
-    Arg::new(alloc, "P:ADDRESS:COUNT")
+    Arg::new(alloc, id)
         .long("memory")
         .action(ArgAction::Append)
-        .help("Words of a process's memory are written at the end, at most eight times")
-}
-
-fn summary_argument<'a>(alloc: Global) -> Arg<'a>
-    ensures rule { rule_of result ≡ summary_rule }
-    ensures local { result.global ≡ false }
-{
-    Arg::new(alloc, "summary")
-        .long("summary")
-        .action(ArgAction::SetTrue)
-        .help("Standard error tells what the run came to")
+        .help(help)
 }
 
 fn with_end<'a>(alloc: Global, described: Command<'a>) -> Result<Command<'a>, AllocError>
@@ -306,9 +307,21 @@ fn with_end<'a>(alloc: Global, described: Command<'a>) -> Result<Command<'a>, Al
     ensures local { IfOk result (λ c. (fields_of c).has_globals ≡ false) }
 {
     described
-        .arg(must_end_argument(alloc))?
-        .arg(memory_argument(alloc))?
-        .arg(summary_argument(alloc))
+        .arg(flag_argument(
+            alloc,
+            "must-end",
+            "The status is 4 where a process has not ended when the run is over",
+        ))?
+        .arg(memory_argument(
+            alloc,
+            "P:ADDRESS:COUNT",
+            "Words of a process's memory are written at the end, at most eight times",
+        ))?
+        .arg(flag_argument(
+            alloc,
+            "summary",
+            "Standard error tells what the run came to",
+        ))
 }
 
 fn most_argument<'a>(alloc: Global) -> Arg<'a>
@@ -325,31 +338,39 @@ fn run_command<'a>(alloc: Global) -> Result<Command<'a>, AllocError>
     ensures app { IfOk result (λ c. app_of c ≡ run_app) }
     ensures local { IfOk result (λ c. (fields_of c).has_globals ≡ false) }
 {
-    let numbered = with_numbers(alloc, run_described(alloc))?;
+    let numbered = with_numbers(
+        alloc,
+        described(
+            alloc,
+            "run",
+            "Runs processes under a policy and writes their consoles and the log",
+            RUN_HELP,
+        ),
+    )?;
     with_end(alloc, numbered)?.arg(most_argument(alloc))
 }
 
-fn from_argument<'a>(alloc: Global) -> Arg<'a>
+fn from_argument<'a>(alloc: Global, name: &'a str, help: &'a str) -> Arg<'a>
     ensures rule { rule_of result ≡ from_rule }
     ensures local { result.global ≡ false }
 {
     Arg::new(alloc, "FROM")
         .long("from")
-        .value_name("T")
+        .value_name(name)
         .value_parser(ValueParser::unsigned(0, 1_000_000_000))
         .default_value("0")
-        .help("Turns are told that began at this time or later, from 0 to 1000000000")
+        .help(help)
 }
 
-fn to_argument<'a>(alloc: Global) -> Arg<'a>
+fn to_argument<'a>(alloc: Global, name: &'a str, help: &'a str) -> Arg<'a>
     ensures rule { rule_of result ≡ to_rule }
     ensures local { result.global ≡ false }
 {
     Arg::new(alloc, "TO")
         .long("to")
-        .value_name("T")
+        .value_name(name)
         .value_parser(ValueParser::unsigned(0, 1_000_000_000))
-        .help("Turns are told that began before this time, from 0 to 1000000000")
+        .help(help)
 }
 
 fn process_argument<'a>(alloc: Global) -> Arg<'a>
@@ -363,35 +384,11 @@ fn process_argument<'a>(alloc: Global) -> Arg<'a>
         .help("A process that is told of, from 1 to 100, as often as is wanted; without it all are")
 }
 
-fn only_argument<'a>(alloc: Global) -> Arg<'a>
+fn only_argument<'a>(alloc: Global, help: &'a str) -> Arg<'a>
     ensures rule { rule_of result ≡ only_rule }
     ensures local { result.global ≡ false }
 {
-    Arg::new(alloc, "KIND").long("only").help(
-        "One kind of line is told alone: units, calls, denials, switches or end",
-    )
-}
-
-fn processor_argument<'a>(alloc: Global) -> Arg<'a>
-    ensures rule { rule_of result ≡ processor_rule }
-    ensures local { result.global ≡ false }
-{
-    Arg::new(alloc, "processor")
-        .long("processor")
-        .action(ArgAction::SetTrue)
-        .help("At the end it is told what the processor did, which depends on R")
-}
-
-fn entries_argument<'a>(alloc: Global) -> Arg<'a>
-    ensures rule { rule_of result ≡ entries_rule }
-    ensures local { result.global ≡ false }
-{
-    Arg::new(alloc, "entries")
-        .long("entries")
-        .action(ArgAction::SetTrue)
-        .help(
-            "It is told who may touch what: each entry of the permission table, and how each changes",
-        )
+    Arg::new(alloc, "KIND").long("only").help(help)
 }
 
 fn with_lines<'a>(alloc: Global, described: Command<'a>) -> Result<Command<'a>, AllocError>
@@ -400,9 +397,34 @@ fn with_lines<'a>(alloc: Global, described: Command<'a>) -> Result<Command<'a>, 
     ensures local { IfOk result (λ c. (fields_of c).has_globals ≡ false) }
 {
     described
-        .arg(only_argument(alloc))?
-        .arg(processor_argument(alloc))?
-        .arg(entries_argument(alloc))
+        .arg(only_argument(
+            alloc,
+            "One kind of line is told alone: units, calls, denials, switches or end",
+        ))?
+        .arg(flag_argument(
+            alloc,
+            "processor",
+            "At the end it is told what the processor did, which depends on R",
+        ))?
+        .arg(flag_argument(
+            alloc,
+            "entries",
+            "It is told who may touch what: each entry of the permission table, and how each changes",
+        ))
+}
+
+fn with_sources<'a>(alloc: Global, described: Command<'a>) -> Result<Command<'a>, AllocError>
+    requires { (fields_of described).has_globals ≡ false }
+    ensures app { IfOk result (λ c. app_of c ≡ of_sources (app_of described.entry)) }
+    ensures local { IfOk result (λ c. (fields_of c).has_globals ≡ false) }
+{
+    described
+        .arg(flag_argument(
+            alloc,
+            "source",
+            "Before an instruction stands its line of its source, with the last label",
+        ))?
+        .arg(flag_argument(alloc, "names", NAMES_HELP))
 }
 
 fn with_turns<'a>(alloc: Global, described: Command<'a>) -> Result<Command<'a>, AllocError>
@@ -411,8 +433,16 @@ fn with_turns<'a>(alloc: Global, described: Command<'a>) -> Result<Command<'a>, 
     ensures local { IfOk result (λ c. (fields_of c).has_globals ≡ false) }
 {
     described
-        .arg(from_argument(alloc))?
-        .arg(to_argument(alloc))?
+        .arg(from_argument(
+            alloc,
+            "T",
+            "Turns are told that began at this time or later, from 0 to 1000000000",
+        ))?
+        .arg(to_argument(
+            alloc,
+            "T",
+            "Turns are told that began before this time, from 0 to 1000000000",
+        ))?
         .arg(process_argument(alloc))
 }
 
@@ -420,9 +450,18 @@ fn trace_command<'a>(alloc: Global) -> Result<Command<'a>, AllocError>
     ensures app { IfOk result (λ c. app_of c ≡ trace_app) }
     ensures local { IfOk result (λ c. (fields_of c).has_globals ≡ false) }
 {
-    let numbered = with_numbers(alloc, trace_described(alloc))?;
+    let numbered = with_numbers(
+        alloc,
+        described(
+            alloc,
+            "trace",
+            "Tells what happens in a run, unit by unit, and then what the run writes",
+            TRACE_HELP,
+        ),
+    )?;
     let ended = with_end(alloc, numbered)?;
-    with_lines(alloc, with_turns(alloc, ended)?)
+    let lined = with_lines(alloc, with_turns(alloc, ended)?)?;
+    with_sources(alloc, lined)
 }
 
 fn input_argument<'a>(alloc: Global) -> Arg<'a>
@@ -432,26 +471,19 @@ fn input_argument<'a>(alloc: Global) -> Arg<'a>
     Arg::new(alloc, "INPUT").help("The file of the input; without it nothing comes")
 }
 
-fn notes_argument<'a>(alloc: Global) -> Arg<'a>
-    ensures rule { rule_of result ≡ notes_rule }
-    ensures local { result.global ≡ false }
-{
-    Arg::new(alloc, "notes-as-faults")
-        .long("notes-as-faults")
-        .action(ArgAction::SetTrue)
-        .help("A note is a fault: the notes alone are told, on standard error")
-}
-
 fn check_described<'a>(alloc: Global) -> Result<Command<'a>, AllocError>
     ensures app { IfOk result (λ c. app_of c ≡ with_rule (with_rule (new_app (codes "check"))
         (required_rule (codes "POLICY"))) (new_rule (codes "INPUT"))) }
     ensures local { IfOk result (λ c. (fields_of c).has_globals ≡ false) }
 {
-    Command::new(alloc, "check")
-        .about("Explains a policy and an input, or why they are refused")
-        .after_help(CHECK_HELP)
-        .arg(file_argument(alloc, "POLICY", "The file of the policy, in TOML"))?
-        .arg(input_argument(alloc))
+    described(
+        alloc,
+        "check",
+        "Explains a policy and an input, or why they are refused",
+        CHECK_HELP,
+    )
+    .arg(file_argument(alloc, "POLICY", "The file of the policy, in TOML"))?
+    .arg(input_argument(alloc))
 }
 
 fn check_command<'a>(alloc: Global) -> Result<Command<'a>, AllocError>
@@ -459,49 +491,31 @@ fn check_command<'a>(alloc: Global) -> Result<Command<'a>, AllocError>
     ensures local { IfOk result (λ c. (fields_of c).has_globals ≡ false) }
 {
     check_described(alloc)?
-        .arg(notes_argument(alloc))?
-        .arg(inside_argument(alloc))
-}
-
-fn words_argument<'a>(alloc: Global) -> Arg<'a>
-    ensures rule { rule_of result ≡ words_rule }
-    ensures local { result.global ≡ false }
-{
-    Arg::new(alloc, "words")
-        .long("words")
-        .action(ArgAction::SetTrue)
-        .help("FILE holds words: each is written as the assembler takes it")
+        .arg(flag_argument(
+            alloc,
+            "notes-as-faults",
+            "A note is a fault: the notes alone are told, on standard error",
+        ))?
+        .arg(flag_argument(alloc, "inside", INSIDE_HELP))
 }
 
 fn list_command<'a>(alloc: Global) -> Result<Command<'a>, AllocError>
     ensures app { IfOk result (λ c. app_of c ≡ list_app) }
     ensures local { IfOk result (λ c. (fields_of c).has_globals ≡ false) }
 {
-    Command::new(alloc, "list")
-        .about("Lists a source with its bytes, or the words of a file as a source")
-        .after_help(LIST_HELP)
-        .arg(file_argument(alloc, "FILE", "The file of the source, or of the words"))?
-        .arg(words_argument(alloc))
-}
-
-fn count_argument<'a>(alloc: Global) -> Arg<'a>
-    ensures rule { rule_of result ≡ time_rule }
-    ensures local { result.global ≡ false }
-{
-    Arg::new(alloc, "N")
-        .required(true)
-        .value_parser(ValueParser::unsigned(0, 1_000_000_000))
-        .help("The most instructions, from 0 to 1000000000")
-}
-
-fn quiet_argument<'a>(alloc: Global) -> Arg<'a>
-    ensures rule { rule_of result ≡ quiet_rule }
-    ensures local { result.global ≡ false }
-{
-    Arg::new(alloc, "quiet")
-        .long("quiet")
-        .action(ArgAction::SetTrue)
-        .help("The instructions are not told, but the end alone")
+    described(
+        alloc,
+        "list",
+        "Lists a source with its bytes, or the words of a file as a source",
+        LIST_HELP,
+    )
+    .arg(file_argument(alloc, "FILE", "The file of the source, or of the words"))?
+    .arg(flag_argument(
+        alloc,
+        "words",
+        "FILE holds words: each is written as the assembler takes it",
+    ))?
+    .arg(flag_argument(alloc, "names", NAMES_HELP))
 }
 
 fn keys_argument<'a>(alloc: Global) -> Arg<'a>
@@ -518,75 +532,14 @@ fn machine_described<'a>(alloc: Global) -> Result<Command<'a>, AllocError>
         (required_rule (codes "SOURCE"))) time_rule) }
     ensures local { IfOk result (λ c. (fields_of c).has_globals ≡ false) }
 {
-    Command::new(alloc, "bare")
-        .about("Runs a source on the bare machine, in kernel mode, and tells of each instruction")
-        .after_help(BARE_HELP)
-        .arg(file_argument(alloc, "SOURCE", "The file of the source"))?
-        .arg(count_argument(alloc))
-}
-
-fn first_argument<'a>(alloc: Global) -> Arg<'a>
-    ensures rule { rule_of result ≡ from_rule }
-    ensures local { result.global ≡ false }
-{
-    Arg::new(alloc, "FROM")
-        .long("from")
-        .value_name("K")
-        .value_parser(ValueParser::unsigned(0, 1_000_000_000))
-        .default_value("0")
-        .help("Instructions are told from this one on; the first is 1")
-}
-
-fn past_argument<'a>(alloc: Global) -> Arg<'a>
-    ensures rule { rule_of result ≡ to_rule }
-    ensures local { result.global ≡ false }
-{
-    Arg::new(alloc, "TO")
-        .long("to")
-        .value_name("K")
-        .value_parser(ValueParser::unsigned(0, 1_000_000_000))
-        .help("Instructions are told before this one; it may not be below that after --from")
-}
-
-fn kind_argument<'a>(alloc: Global) -> Arg<'a>
-    ensures rule { rule_of result ≡ only_rule }
-    ensures local { result.global ≡ false }
-{
-    Arg::new(alloc, "KIND").long("only").help(
-        "One kind of instruction is told alone: exceptions, tlb, devices or end, which tells none",
+    described(
+        alloc,
+        "bare",
+        "Runs a source on the bare machine, in kernel mode, and tells of each instruction",
+        BARE_HELP,
     )
-}
-
-fn matches_argument<'a>(alloc: Global) -> Arg<'a>
-    ensures rule { rule_of result ≡ matches_rule }
-    ensures local { result.global ≡ false }
-{
-    Arg::new(alloc, "matches")
-        .long("matches")
-        .action(ArgAction::SetTrue)
-        .help("A line tells where two slots of the buffer begin to match each other")
-}
-
-fn counts_argument<'a>(alloc: Global) -> Arg<'a>
-    ensures rule { rule_of result ≡ counts_rule }
-    ensures local { result.global ≡ false }
-{
-    Arg::new(alloc, "counts")
-        .long("counts")
-        .action(ArgAction::SetTrue)
-        .help("The end tells how much of each there was: refills, exceptions, interrupts ..")
-}
-
-fn spans_argument<'a>(alloc: Global) -> Arg<'a>
-    ensures rule { rule_of result ≡ spans_rule }
-    ensures local { result.global ≡ false }
-{
-    Arg::new(alloc, "ADDRESS:COUNT")
-        .long("memory")
-        .action(ArgAction::Append)
-        .help(
-            "Words of memory are written at the end, by their physical address, at most eight times",
-        )
+    .arg(file_argument(alloc, "SOURCE", "The file of the source"))?
+    .arg(time_argument(alloc, "The most instructions, from 0 to 1000000000"))
 }
 
 fn with_numbered<'a>(alloc: Global, described: Command<'a>) -> Result<Command<'a>, AllocError>
@@ -595,9 +548,20 @@ fn with_numbered<'a>(alloc: Global, described: Command<'a>) -> Result<Command<'a
     ensures local { IfOk result (λ c. (fields_of c).has_globals ≡ false) }
 {
     described
-        .arg(first_argument(alloc))?
-        .arg(past_argument(alloc))?
-        .arg(kind_argument(alloc))
+        .arg(from_argument(
+            alloc,
+            "K",
+            "Instructions are told from this one on; the first is 1",
+        ))?
+        .arg(to_argument(
+            alloc,
+            "K",
+            "Instructions are told before this one; it may not be below that after --from",
+        ))?
+        .arg(only_argument(
+            alloc,
+            "One kind of instruction is told alone: exceptions, tlb, devices or end, which tells none",
+        ))
 }
 
 fn with_looks<'a>(alloc: Global, described: Command<'a>) -> Result<Command<'a>, AllocError>
@@ -606,9 +570,21 @@ fn with_looks<'a>(alloc: Global, described: Command<'a>) -> Result<Command<'a>, 
     ensures local { IfOk result (λ c. (fields_of c).has_globals ≡ false) }
 {
     described
-        .arg(matches_argument(alloc))?
-        .arg(counts_argument(alloc))?
-        .arg(spans_argument(alloc))
+        .arg(flag_argument(
+            alloc,
+            "matches",
+            "A line tells where two slots of the buffer begin to match each other",
+        ))?
+        .arg(flag_argument(
+            alloc,
+            "counts",
+            "The end tells how much of each there was: refills, exceptions, interrupts ..",
+        ))?
+        .arg(memory_argument(
+            alloc,
+            "ADDRESS:COUNT",
+            "Words of memory are written at the end, by their physical address, at most eight times",
+        ))
 }
 
 fn machine_command<'a>(alloc: Global) -> Result<Command<'a>, AllocError>
@@ -617,10 +593,14 @@ fn machine_command<'a>(alloc: Global) -> Result<Command<'a>, AllocError>
 {
     let quieted = machine_described(alloc)?
         .arg(random_argument(alloc))?
-        .arg(quiet_argument(alloc))?
+        .arg(flag_argument(
+            alloc,
+            "quiet",
+            "The instructions are not told, but the end alone",
+        ))?
         .arg(keys_argument(alloc))?;
     let numbered = with_numbered(alloc, quieted)?;
-    with_looks(alloc, numbered)
+    with_looks(alloc, numbered)?.arg(flag_argument(alloc, "names", NAMES_HELP))
 }
 
 fn bare_command<'a>(alloc: Global) -> Command<'a>
@@ -670,27 +650,32 @@ fn with_machine<'a>(alloc: Global) -> Result<Command<'a>, AllocError>
     with_check(alloc)?.subcommand(machine)
 }
 
-fn demo_command<'a>(alloc: Global) -> Command<'a>
-    ensures app { app_of result ≡ new_app (codes "demo") }
-    ensures local { (fields_of result).has_globals ≡ false }
-{
-    Command::new(alloc, "demo")
-        .about("Runs a process that writes one letter")
-        .after_help(DEMO_HELP)
-}
-
 fn with_demo<'a>(alloc: Global) -> Result<Command<'a>, AllocError>
     ensures { IfOk result (λ c. app_of c ≡ with_subcommand (with_subcommand
         (with_subcommand files_app check_app.top) machine_app.top)
         (new_app (codes "demo")).top) }
 {
-    with_machine(alloc)?.subcommand(demo_command(alloc))
+    with_machine(alloc)?.subcommand(described(
+        alloc,
+        "demo",
+        "Runs a process that writes one letter",
+        DEMO_HELP,
+    ))
+}
+
+fn with_debug<'a>(alloc: Global) -> Result<Command<'a>, AllocError>
+    ensures { IfOk result (λ c. app_of c ≡ with_subcommand (with_subcommand (with_subcommand
+        (with_subcommand files_app check_app.top) machine_app.top)
+        (new_app (codes "demo")).top) debug_app.top) }
+{
+    let debug = debug_command(alloc)?;
+    with_demo(alloc)?.subcommand(debug)
 }
 
 /// The whole command line.
 pub fn command<'a>(alloc: Global) -> Result<Command<'a>, AllocError>
     ensures { IfOk result (λ c. app_of c ≡ dsmon_app) }
 {
-    let debug = debug_command(alloc)?;
-    with_demo(alloc)?.subcommand(debug)
+    let explain = explain_command(alloc)?;
+    with_debug(alloc)?.subcommand(explain)
 }

@@ -1,10 +1,10 @@
 //! The words of a session with a debugger, and their help.
 ghost use Rattle.std.specs.Prelude.{◌≡◌, IfOk, codes, false};
-ghost use Rattle.clap.specs.Words.{app_of, new_app};
+ghost use Rattle.clap.specs.Words.{app_of};
 ghost use Rattle.clap.specs.declared.builder.command.Command.TheViews.{out-Command as fields_of};
 ghost use Rattle.ds_words.specs.Words.{debug_app};
 
-use crate::commands::with_numbers;
+use crate::commands::{described, with_numbers};
 use clap::Command;
 use std::alloc::{AllocError, Global};
 
@@ -23,19 +23,18 @@ Examples:
 
 docs/debug.md has a session step by step.";
 
-fn debug_described<'a>(alloc: Global) -> Command<'a>
-    ensures app { app_of result ≡ new_app (codes "debug") }
-    ensures local { (fields_of result).has_globals ≡ false }
-{
-    Command::new(alloc, "debug")
-        .about("Answers gdb about a run: breakpoints, steps, and back in time")
-        .after_help(DEBUG_HELP)
-}
-
 /// The command `debug`.
 pub(crate) fn debug_command<'a>(alloc: Global) -> Result<Command<'a>, AllocError>
     ensures app { IfOk result (λ c. app_of c ≡ debug_app) }
     ensures local { IfOk result (λ c. (fields_of c).has_globals ≡ false) }
 {
-    with_numbers(alloc, debug_described(alloc))
+    with_numbers(
+        alloc,
+        described(
+            alloc,
+            "debug",
+            "Answers gdb about a run: breakpoints, steps, and back in time",
+            DEBUG_HELP,
+        ),
+    )
 }

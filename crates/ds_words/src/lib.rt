@@ -3,6 +3,7 @@
 
 mod commands;
 mod debug;
+mod explain;
 mod spans;
 mod windows;
 mod words;
@@ -10,6 +11,6 @@ mod words;
 pub use ds_bare_view::{BareOnly, BareView, Span, Spans};
 pub use windows::{Window, Windows};
 pub use words::{
-    BareRequest, CheckRequest, Extras, ListRequest, Request, RunRequest, TraceRequest, Untaken,
-    Wish, program_words, wish_of,
+    BareRequest, CheckRequest, ExplainRequest, Extras, ListRequest, Request, RunRequest,
+    TraceRequest, Untaken, Wish, program_words, wish_of,
 };

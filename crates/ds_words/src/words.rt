@@ -6,7 +6,7 @@ ghost use Rattle.ds_bare_view.specs.Spans.{spans_in};
 ghost use Rattle.ds_words.specs.Spans.{IsSpan};
 ghost use Rattle.ds_words.specs.Windows.{IsWindow, windows_in};
 ghost use Rattle.ds_words.specs.declared.windows.Window.{Window};
-ghost use Rattle.ds_words.specs.Words.{AsksForBare, AsksForCheck, AsksForDebug, AsksForList, AsksForRun, AsksForSomething, AsksForTrace, IsGiven, MisnamesMemory, NamesAskedRun, NamesBare, NamesCheck, NamesExtras, NamesList, NamesMemory, NamesProcesses, NamesRun, NamesTrace, NamesView, WriteProcesses, command_named, dsmon_app, kind_word, NamesBareFlags, NamesBareView, NamesSpans, bare_kind_word};
+ghost use Rattle.ds_words.specs.Words.{AsksForBare, AsksForCheck, AsksForDebug, AsksForExplain, AsksForList, AsksForRun, AsksForSomething, AsksForTrace, IsGiven, MisnamesMemory, NamesAskedRun, NamesBare, NamesCheck, NamesExplain, NamesExtras, NamesList, NamesMemory, NamesProcesses, NamesRun, NamesTrace, NamesView, WriteProcesses, command_named, dsmon_app, kind_word, NamesBareFlags, NamesBareView, NamesSpans, bare_kind_word, CallsRegisters};
 
 use crate::commands::command;
 use crate::spans::spans_of;
@@ -14,12 +14,13 @@ use crate::windows::{Windows, windows_of};
 use clap::parser::ValuesRef;
 use clap::{ArgMatches, Error};
 use ds_bare_view::{BareOnly, BareView, Span, Spans};
+use ds_listing::RegisterNames;
 use ds_view::{Only, Processes, View};
 use std::alloc::Global;
 use std::rt::Env;
 use std::{env, io};
 
-/// A run of files that the words ask for, ask for the trace of, or want to debug.
+/// A run of files that the words ask for, ask for the trace of, or want to debug or to have explained.
 #[derive(Clone, Copy, Debug, PartialEq, Eq)]
 pub struct Request<'a> {
     /// The name of the policy's file.
@@ -57,14 +58,23 @@ pub struct RunRequest<'a> {
 }
 
 /// A trace of a run of files that the words ask for, and what is wanted of it.
-#[derive(Clone, Copy, Debug, PartialEq, Eq)]
+#[derive(Clone, Copy)]
 pub struct TraceRequest<'a> {
     /// The run.
     pub run: Request<'a>,
     /// What is wanted beside its text.
     pub extras: Extras,
-    /// Which lines of its trace are told.
-    pub view: View,
+    /// Which lines of its trace are told, and how.
+    pub view: View<'a>,
+}
+
+/// A run of files whose log the words want explained.
+#[derive(Clone, Copy, Debug, PartialEq, Eq)]
+pub struct ExplainRequest<'a> {
+    /// The run.
+    pub run: Request<'a>,
+    /// The number of the line of its log that is wanted alone, from 1, where one is.
+    pub line: Option<u64>,
 }
 
 /// A file that the words want listed.
@@ -74,6 +84,8 @@ pub struct ListRequest<'a> {
     pub file: &'a str,
     /// Whether it holds words, and not a source.
     pub words: bool,
+    /// How registers of words are called.
+    pub names: RegisterNames,
 }
 
 /// A policy, and an input where one is named, that the words want explained.
@@ -105,7 +117,7 @@ pub struct BareRequest<'a> {
 }
 
 /// What the words ask for.
-#[derive(Clone, Copy, Debug, PartialEq, Eq)]
+#[derive(Clone, Copy)]
 pub enum Wish<'a> {
     /// The run that the program holds.
     Demo,
@@ -121,6 +133,8 @@ pub enum Wish<'a> {
     Trace(TraceRequest<'a>),
     /// A session with a debugger over a run of files.
     Debug(Request<'a>),
+    /// Why the log of a run of files has its lines.
+    Explain(ExplainRequest<'a>),
 }
 
 /// Why words that clap takes ask for nothing.
@@ -151,7 +165,7 @@ fn read_words<'a>(alloc: Global, words: &'a [String]) -> Result<ArgMatches<'a>, 
     command(alloc)?.try_get_matches_from(words)
 }
 
-/// The run that the words after `run`, `trace` or `debug` ask for.
+/// The run that the words after `run`, `trace`, `debug` or `explain` ask for.
 fn request_of<'a>(found: &ArgMatches<'a>) -> Option<Request<'a>>
     ensures some { IfSome result (λ request. NamesRun (rows_of (found_of found.now)) request) }
     ensures none { result ≡ None → (request : Request) → ¬ NamesRun (rows_of (found_of found.now)) request }
@@ -228,8 +242,19 @@ fn processes_named<'a>(found: &ArgMatches<'a>) -> Option<Option<Processes>>
     }
 }
 
+/// How registers are called.
+fn names_of<'a>(found: &ArgMatches<'a>) -> RegisterNames
+    ensures { CallsRegisters (rows_of (found_of found.now)) result }
+{
+    if found.get_flag("names") {
+        RegisterNames::Common
+    } else {
+        RegisterNames::Numbers
+    }
+}
+
 /// Which lines the words after `trace` ask for.
-fn view_of<'a>(found: &ArgMatches<'a>) -> Option<View>
+fn view_of<'a>(found: &ArgMatches<'a>) -> Option<View<'a>>
     ensures some { IfSome result (λ view. NamesView (rows_of (found_of found.now)) view) }
     ensures none { result ≡ None → (view : View) → ¬ NamesView (rows_of (found_of found.now)) view }
 {
@@ -240,17 +265,19 @@ fn view_of<'a>(found: &ArgMatches<'a>) -> Option<View>
         only: kind_of(found)?,
         processor: found.get_flag("processor"),
         entries: found.get_flag("entries"),
+        names: names_of(found),
+        source: found.get_flag("source"),
+        pages: &[],
     })
 }
 
-/// The bound of bytes, where there is one.
-fn most_of<'a>(found: &ArgMatches<'a>) -> Option<Option<u64>>
-    ensures some { IfSome result (λ most. IsGiven 64
-        (one_of (codes "BYTES") (rows_of (found_of found.now))) most) }
-    ensures none { result ≡ None → (most : Option ℕ)
-        → ¬ IsGiven 64 (one_of (codes "BYTES") (rows_of (found_of found.now))) most }
+/// The number of a flag that may be left out, where it may be a large one.
+fn large_of<'a>(found: &ArgMatches<'a>, id: &str) -> Option<Option<u64>>
+    ensures some { IfSome result (λ given. IsGiven 64 (one_of id.now (rows_of (found_of found.now))) given) }
+    ensures none { result ≡ None → (given : Option ℕ)
+        → ¬ IsGiven 64 (one_of id.now (rows_of (found_of found.now))) given }
 {
-    found.try_get_one("BYTES").ok()
+    found.try_get_one(id).ok()
 }
 
 /// The words of memory that are wanted.
@@ -297,7 +324,7 @@ fn run_request_of<'a>(found: &ArgMatches<'a>, memory: Windows) -> Option<RunRequ
     Some(RunRequest {
         run: request_of(found)?,
         extras: extras_of(found, memory),
-        most: most_of(found)?,
+        most: large_of(found, "BYTES")?,
     })
 }
 
@@ -366,6 +393,7 @@ fn list_request_of<'a>(found: &ArgMatches<'a>) -> Option<ListRequest<'a>>
     Some(ListRequest {
         file: found.get_str("FILE")?,
         words: found.get_flag("words"),
+        names: names_of(found),
     })
 }
 
@@ -449,6 +477,7 @@ fn bare_flags_of<'a>(found: &ArgMatches<'a>) -> Option<BareView>
         matches: found.get_flag("matches"),
         counts: found.get_flag("counts"),
         memory: spans_named(found)?,
+        names: names_of(found),
     })
 }
 
@@ -479,6 +508,18 @@ fn bare_request_of<'a>(found: &ArgMatches<'a>) -> Option<BareRequest<'a>>
     })
 }
 
+/// What the words after `explain` ask for.
+fn explain_request_of<'a>(found: &ArgMatches<'a>) -> Option<ExplainRequest<'a>>
+    ensures some { IfSome result (λ request. NamesExplain (rows_of (found_of found.now)) request) }
+    ensures none { result ≡ None → (request : ExplainRequest)
+        → ¬ NamesExplain (rows_of (found_of found.now)) request }
+{
+    Some(ExplainRequest {
+        run: request_of(found)?,
+        line: large_of(found, "K")?,
+    })
+}
+
 /// What `words` ask for, the program's own name first. An error is clap's: a mistake in the words,
 /// a call for help or the version, or memory that ran out. Where clap takes the words although they
 /// ask for nothing, it is told why: `Memory` goes before `Kind`; of a bare run it is always `Bare`.
@@ -500,6 +541,9 @@ pub fn wish_of<'a>(alloc: Global, words: &'a [String]) -> Result<Result<Wish<'a>
         → AsksForTrace (map string_bytes words.entry.now) request) }
     ensures debug { IfOk result (λ wish. (request : Request) → wish ≡ Ok (Wish.Debug request)
         → AsksForDebug (map string_bytes words.entry.now) request) }
+    ensures explain { IfOk result (λ wish. (request : ExplainRequest)
+        → wish ≡ Ok (Wish.Explain request)
+        → AsksForExplain (map string_bytes words.entry.now) request) }
     ensures none { IfOk result (λ wish. (cause : Untaken) → wish ≡ Err cause
         → ¬ AsksForSomething (map string_bytes words.entry.now)) }
     ensures memory { IfOk result (λ wish. wish ≡ Err Untaken.Memory
@@ -522,6 +566,11 @@ pub fn wish_of<'a>(alloc: Global, words: &'a [String]) -> Result<Result<Wish<'a>
         ),
         Some(("list", found)) => Ok(list_request_of(found).map(Wish::List).ok_or(Untaken::Kind)),
         Some(("debug", found)) => Ok(request_of(found).map(Wish::Debug).ok_or(Untaken::Kind)),
+        Some(("explain", found)) => Ok(
+            explain_request_of(found)
+                .map(Wish::Explain)
+                .ok_or(Untaken::Kind),
+        ),
         Some(("bare", found)) => Ok(bare_request_of(found).map(Wish::Bare).ok_or(Untaken::Bare)),
         _ => Ok(Err(Untaken::Kind)),
     }

@@ -16,12 +16,13 @@ use Rattle.ds_drive.proofs.Coming.{run_cut_by, run_done, run_much, run_unended, 
 use Rattle.ds_drive.proofs.Cuts.{check_cut, demo_cut, list_cut, run_cut}
 use Rattle.ds_drive.proofs.Noting.{check_noted}
 use Rattle.ds_drive.proofs.Stops.{list_faulty, no_fault_is_done, no_fault_is_unended}
-use Rattle.ds_drive.proofs.ReadingStatuses.{bare_reads, bare_reads_until, check_reads, check_reads_until, debug_reads, debug_reads_until, list_reads_until, no_file_asked, run_reads, run_reads_until, trace_reads, trace_reads_until}
+use Rattle.ds_drive.proofs.ReadingStatuses.{bare_reads, bare_reads_until, check_reads, check_reads_until, debug_reads, debug_reads_until, explain_reads, explain_reads_until, list_reads_until, no_file_asked, run_reads, run_reads_until, trace_reads, trace_reads_until}
 use Rattle.ds_drive.proofs.TraceLemmas.{trace_cut, trace_stopped}
 use Rattle.ds_drive.proofs.Heard.{told_so}
 use Rattle.ds_drive.proofs.Untaken.{taken_for_memory}
 use Rattle.ds_drive.proofs.Debugging.{debug_cut, debug_done, debug_stopped, debug_unwritten, unheard_cut, unheard_stopped}
-use Rattle.ds_drive.proofs.Wishes.{asks_debug, asks_nothing, asks_run, asks_trace}
+use Rattle.ds_drive.proofs.ExplainLemmas.{explain_cut, explain_done, explain_stopped, explain_unwritten}
+use Rattle.ds_drive.proofs.Wishes.{asks_bare, asks_debug, asks_explain, asks_nothing, asks_run, asks_trace}
 use Rattle.ds_words.proofs.WordLemmas.{alone, fails_for_memory, only_memory_fails}
 use Rattle.ds_drive.proofs.program.drive_with_input.Goals as goal
 
@@ -331,19 +332,19 @@ pub returns-in-Ok-Over-clause-asked : goal.returns-in-Ok-Over-clause-asked
 returns-in-Ok-Over-clause-asked g c done =
     let asks = asks_debug (map string_bytes c.args.words.now) c.wish_of.result c.in-Ok-Ok-Debug.field-0 c.in-Ok-Ok-Debug.is c.in-Ok-Ok-Debug.field-0-0
     c.in-Ok-Ok-Debug.request c.in-Ok-Ok-Debug.field-0-is c.in-Ok-Ok-Debug.field-0-0-is c.wish_of.ensures.debug in
-    inr (inr (inr (inr (inr (inr (c.in-Ok-Ok-Debug.request, asks))))))
+    inr (inr (inr (inr (inr (inr (inl (c.in-Ok-Ok-Debug.request, asks)))))))
 
 pub returns-in-Ok-Unread-clause-asked : goal.returns-in-Ok-Unread-clause-asked
 returns-in-Ok-Unread-clause-asked g c done =
     let asks = asks_debug (map string_bytes c.args.words.now) c.wish_of.result c.in-Ok-Ok-Debug.field-0 c.in-Ok-Ok-Debug.is c.in-Ok-Ok-Debug.field-0-0
     c.in-Ok-Ok-Debug.request c.in-Ok-Ok-Debug.field-0-is c.in-Ok-Ok-Debug.field-0-0-is c.wish_of.ensures.debug in
-    inr (inr (inr (inr (inr (inr (c.in-Ok-Ok-Debug.request, asks))))))
+    inr (inr (inr (inr (inr (inr (inl (c.in-Ok-Ok-Debug.request, asks)))))))
 
 pub returns-in-Err-debug_files-clause-asked : goal.returns-in-Err-debug_files-clause-asked
 returns-in-Err-debug_files-clause-asked g c done =
     let asks = asks_debug (map string_bytes c.args.words.now) c.wish_of.result c.in-Ok-Ok-Debug.field-0 c.in-Ok-Ok-Debug.is c.in-Ok-Ok-Debug.field-0-0
     c.in-Ok-Ok-Debug.request c.in-Ok-Ok-Debug.field-0-is c.in-Ok-Ok-Debug.field-0-0-is c.wish_of.ensures.debug in
-    inr (inr (inr (inr (inr (inr (c.in-Ok-Ok-Debug.request, asks))))))
+    inr (inr (inr (inr (inr (inr (inl (c.in-Ok-Ok-Debug.request, asks)))))))
 
 pub returns-in-Ok-Over-clause-done : goal.returns-in-Ok-Over-clause-done
 returns-in-Ok-Over-clause-done g c zero =
@@ -473,3 +474,111 @@ returns-in-Ok-Err-Bare-clause-bare g c one taken named =
     told_so c.send-in-Ok-Err-Bare.result (g.E.Output.contents c.args.err.now) (g.E.Output.contents c.send-in-Ok-Err-Bare.new.out)
     (g.E.Output.answers c.args.err.now) (g.E.Output.answers c.send-in-Ok-Err-Bare.new.out)
     bare_words_line c.send-in-Ok-Err-Bare.ensures.ok c.send-in-Ok-Err-Bare.ensures.err c.send-in-Ok-Err-Bare.ensures.once
+
+pub returns-in-Ok-explain_files-clause-asked : goal.returns-in-Ok-explain_files-clause-asked
+returns-in-Ok-explain_files-clause-asked g c done =
+    let asks = asks_explain (map string_bytes c.args.words.now) c.wish_of.result c.in-Ok-Ok-Explain.field-0 c.in-Ok-Ok-Explain.is c.in-Ok-Ok-Explain.field-0-0
+    c.in-Ok-Ok-Explain.request c.in-Ok-Ok-Explain.field-0-is c.in-Ok-Ok-Explain.field-0-0-is c.wish_of.ensures.explain in
+    inr (inr (inr (inr (inr (inr (inr (c.in-Ok-Ok-Explain.request, asks)))))))
+
+pub returns-in-Err-explain_files-clause-asked : goal.returns-in-Err-explain_files-clause-asked
+returns-in-Err-explain_files-clause-asked g c done =
+    let asks = asks_explain (map string_bytes c.args.words.now) c.wish_of.result c.in-Ok-Ok-Explain.field-0 c.in-Ok-Ok-Explain.is c.in-Ok-Ok-Explain.field-0-0
+    c.in-Ok-Ok-Explain.request c.in-Ok-Ok-Explain.field-0-is c.in-Ok-Ok-Explain.field-0-0-is c.wish_of.ensures.explain in
+    inr (inr (inr (inr (inr (inr (inr (c.in-Ok-Ok-Explain.request, asks)))))))
+
+pub returns-in-Ok-explain_files-clause-done : goal.returns-in-Ok-explain_files-clause-done
+returns-in-Ok-explain_files-clause-done g c zero =
+    let asks = asks_explain (map string_bytes c.args.words.now) c.wish_of.result c.in-Ok-Ok-Explain.field-0 c.in-Ok-Ok-Explain.is c.in-Ok-Ok-Explain.field-0-0
+    c.in-Ok-Ok-Explain.request c.in-Ok-Ok-Explain.field-0-is c.in-Ok-Ok-Explain.field-0-0-is c.wish_of.ensures.explain in
+    explain_done (map string_bytes c.args.words.now) (g.F.Files.holds c.args.files.now) c.in-Ok-Ok-Explain.request (g.W.Write.contents c.args.out.now) (g.W.Write.contents c.explain_files.new.out) asks (stream (g.R.Read.remaining c.args.input.now) (g.R.Read.remaining c.args.input.now)) _ c.in-Ok-explain_files.ensures.ok
+
+pub returns-in-Ok-explain_files-clause-reads : goal.returns-in-Ok-explain_files-clause-reads
+returns-in-Ok-explain_files-clause-reads g c =
+    let asks = asks_explain (map string_bytes c.args.words.now) c.wish_of.result c.in-Ok-Ok-Explain.field-0 c.in-Ok-Ok-Explain.is c.in-Ok-Ok-Explain.field-0-0
+    c.in-Ok-Ok-Explain.request c.in-Ok-Ok-Explain.field-0-is c.in-Ok-Ok-Explain.field-0-0-is c.wish_of.ensures.explain in
+    explain_reads 0 (map string_bytes c.args.words.now) (g.F.Files.holds c.args.files.now) (g.F.Files.asked c.args.files.now) (g.F.Files.asked c.explain_files.new.files) c.in-Ok-Ok-Explain.request asks c.in-Ok-explain_files.ensures.reads
+
+pub returns-in-Err-explain_files-clause-reads : goal.returns-in-Err-explain_files-clause-reads
+returns-in-Err-explain_files-clause-reads g c =
+    let asks = asks_explain (map string_bytes c.args.words.now) c.wish_of.result c.in-Ok-Ok-Explain.field-0 c.in-Ok-Ok-Explain.is c.in-Ok-Ok-Explain.field-0-0
+    c.in-Ok-Ok-Explain.request c.in-Ok-Ok-Explain.field-0-is c.in-Ok-Ok-Explain.field-0-0-is c.wish_of.ensures.explain in
+    explain_reads_until c.tell-in-Err-explain_files.result (map string_bytes c.args.words.now) (g.F.Files.holds c.args.files.now) (g.F.Files.asked c.args.files.now) (g.F.Files.asked c.explain_files.new.files) c.in-Ok-Ok-Explain.request c.in-Err-explain_files.failure
+    c.tell-in-Err-explain_files.ensures.status asks c.in-Err-explain_files.ensures.reads_until
+
+pub returns-in-Err-explain_files-clause-cut : goal.returns-in-Err-explain_files-clause-cut
+returns-in-Err-explain_files-clause-cut g c three =
+    let asks = asks_explain (map string_bytes c.args.words.now) c.wish_of.result c.in-Ok-Ok-Explain.field-0 c.in-Ok-Ok-Explain.is c.in-Ok-Ok-Explain.field-0-0
+    c.in-Ok-Ok-Explain.request c.in-Ok-Ok-Explain.field-0-is c.in-Ok-Ok-Explain.field-0-0-is c.wish_of.ensures.explain in
+    explain_cut (map string_bytes c.args.words.now) (g.F.Files.holds c.args.files.now) c.in-Ok-Ok-Explain.request (g.W.Write.contents c.args.out.now) (g.W.Write.contents c.explain_files.new.out) asks (g.F.Files.lacks c.args.files.now) c.in-Err-explain_files.failure c.in-Err-explain_files.ensures.err
+
+pub returns-in-Err-explain_files-clause-stopped : goal.returns-in-Err-explain_files-clause-stopped
+returns-in-Err-explain_files-clause-stopped g c two =
+    let asks = asks_explain (map string_bytes c.args.words.now) c.wish_of.result c.in-Ok-Ok-Explain.field-0 c.in-Ok-Ok-Explain.is c.in-Ok-Ok-Explain.field-0-0
+    c.in-Ok-Ok-Explain.request c.in-Ok-Ok-Explain.field-0-is c.in-Ok-Ok-Explain.field-0-0-is c.wish_of.ensures.explain in
+    explain_stopped (map string_bytes c.args.words.now) (g.F.Files.holds c.args.files.now) c.in-Ok-Ok-Explain.request (g.W.Write.contents c.args.out.now) (g.W.Write.contents c.explain_files.new.out) asks (g.F.Files.lacks c.args.files.now) c.in-Err-explain_files.failure 2 _ (sym c.tell-in-Err-explain_files.ensures.status ∙ two) c.in-Err-explain_files.ensures.err c.tell-in-Err-explain_files.ensures.told
+
+pub returns-in-Err-explain_files-clause-failed : goal.returns-in-Err-explain_files-clause-failed
+returns-in-Err-explain_files-clause-failed g c three =
+    let asks = asks_explain (map string_bytes c.args.words.now) c.wish_of.result c.in-Ok-Ok-Explain.field-0 c.in-Ok-Ok-Explain.is c.in-Ok-Ok-Explain.field-0-0
+    c.in-Ok-Ok-Explain.request c.in-Ok-Ok-Explain.field-0-is c.in-Ok-Ok-Explain.field-0-0-is c.wish_of.ensures.explain in
+    inr (inl (explain_stopped (map string_bytes c.args.words.now) (g.F.Files.holds c.args.files.now) c.in-Ok-Ok-Explain.request (g.W.Write.contents c.args.out.now) (g.W.Write.contents c.explain_files.new.out) asks (g.F.Files.lacks c.args.files.now) c.in-Err-explain_files.failure 3 _ (sym c.tell-in-Err-explain_files.ensures.status ∙ three) c.in-Err-explain_files.ensures.err c.tell-in-Err-explain_files.ensures.told))
+
+pub returns-in-Err-explain_files-clause-unread : goal.returns-in-Err-explain_files-clause-unread
+returns-in-Err-explain_files-clause-unread g c two =
+    explain_unwritten (g.F.Files.holds c.args.files.now) (g.F.Files.lacks c.args.files.now) c.in-Ok-Ok-Explain.request c.in-Err-explain_files.failure (g.W.Write.contents c.args.out.now) (g.W.Write.contents c.explain_files.new.out) (sym c.tell-in-Err-explain_files.ensures.status ∙ two) c.in-Err-explain_files.ensures.err
+
+pub returns-in-Err-explain_files-clause-done : goal.returns-in-Err-explain_files-clause-done
+returns-in-Err-explain_files-clause-done g c zero =
+    absurd (no_fault_is_done (failure_number c.in-Err-explain_files.failure) (sym c.tell-in-Err-explain_files.ensures.status ∙ zero))
+
+pub returns-in-Err-explain_files-clause-unended : goal.returns-in-Err-explain_files-clause-unended
+returns-in-Err-explain_files-clause-unended g c is =
+    absurd (no_fault_is_unended (failure_number c.in-Err-explain_files.failure) (sym c.tell-in-Err-explain_files.ensures.status ∙ is))
+
+pub returns-in-Ok-Written-bare_file-clause-asked : goal.returns-in-Ok-Written-bare_file-clause-asked
+returns-in-Ok-Written-bare_file-clause-asked g c done =
+    let asks = asks_bare (map string_bytes c.args.words.now) c.wish_of.result c.in-Ok-Ok-Bare.field-0 c.in-Ok-Ok-Bare.is c.in-Ok-Ok-Bare.field-0-0
+    c.in-Ok-Ok-Bare.request c.in-Ok-Ok-Bare.field-0-is c.in-Ok-Ok-Bare.field-0-0-is c.wish_of.ensures.bare in
+    inr (inr (inr (inr (inl (c.in-Ok-Ok-Bare.request, asks)))))
+
+pub returns-in-Ok-Faults-bare_file-clause-asked : goal.returns-in-Ok-Faults-bare_file-clause-asked
+returns-in-Ok-Faults-bare_file-clause-asked g c done =
+    let asks = asks_bare (map string_bytes c.args.words.now) c.wish_of.result c.in-Ok-Ok-Bare.field-0 c.in-Ok-Ok-Bare.is c.in-Ok-Ok-Bare.field-0-0
+    c.in-Ok-Ok-Bare.request c.in-Ok-Ok-Bare.field-0-is c.in-Ok-Ok-Bare.field-0-0-is c.wish_of.ensures.bare in
+    inr (inr (inr (inr (inl (c.in-Ok-Ok-Bare.request, asks)))))
+
+pub returns-in-Err-bare_file-clause-asked : goal.returns-in-Err-bare_file-clause-asked
+returns-in-Err-bare_file-clause-asked g c done =
+    let asks = asks_bare (map string_bytes c.args.words.now) c.wish_of.result c.in-Ok-Ok-Bare.field-0 c.in-Ok-Ok-Bare.is c.in-Ok-Ok-Bare.field-0-0
+    c.in-Ok-Ok-Bare.request c.in-Ok-Ok-Bare.field-0-is c.in-Ok-Ok-Bare.field-0-0-is c.wish_of.ensures.bare in
+    inr (inr (inr (inr (inl (c.in-Ok-Ok-Bare.request, asks)))))
+
+pub returns-in-Ok-Written-bare_file-clause-done : goal.returns-in-Ok-Written-bare_file-clause-done
+returns-in-Ok-Written-bare_file-clause-done g c zero =
+    let asks = asks_bare (map string_bytes c.args.words.now) c.wish_of.result c.in-Ok-Ok-Bare.field-0 c.in-Ok-Ok-Bare.is c.in-Ok-Ok-Bare.field-0-0
+    c.in-Ok-Ok-Bare.request c.in-Ok-Ok-Bare.field-0-is c.in-Ok-Ok-Bare.field-0-0-is c.wish_of.ensures.bare in
+    let runs = subst (λ (came : Listing). RunsOrIsFaulty came (g.F.Files.holds c.args.files.now) c.in-Ok-Ok-Bare.request (g.W.Write.contents c.args.out.now) (g.W.Write.contents c.bare_file.new.out)) c.in-Ok-Written-bare_file.field-0-is c.in-Ok-Written-bare_file.ensures.ok in
+    inr (inr (inr (inr (inl (c.in-Ok-Ok-Bare.request, asks, runs)))))
+
+pub returns-in-Err-run_request-clause-failed : goal.returns-in-Err-run_request-clause-failed
+returns-in-Err-run_request-clause-failed g c three =
+    let asks = asks_run (map string_bytes c.args.words.now) c.wish_of.result c.in-Ok-Ok-Run.field-0 c.in-Ok-Ok-Run.is c.in-Ok-Ok-Run.field-0-0
+    c.in-Ok-Ok-Run.request c.in-Ok-Ok-Run.field-0-is c.in-Ok-Ok-Run.field-0-0-is c.wish_of.ensures.run in
+    inr (inl (inr (inl (
+      c.in-Ok-Ok-Run.request,
+      asks,
+      record {
+        failure = c.in-Err-run_request.failure;
+        has = sym c.tell-in-Err-run_request.ensures.status ∙ three;
+        so = c.in-Err-run_request.ensures.err;
+        told = c.tell-in-Err-run_request.ensures.told;
+      },
+    ))))
+
+pub returns-in-Ok-Err-Kind-clause-kind : goal.returns-in-Ok-Err-Kind-clause-kind
+returns-in-Ok-Err-Kind-clause-kind g c one taken misnames named =
+    told_so c.send.result (g.E.Output.contents c.args.err.now) (g.E.Output.contents c.send.new.out)
+    (g.E.Output.answers c.args.err.now) (g.E.Output.answers c.send.new.out)
+    (codes "dsmon: --only takes end, calls, denials, switches or units\n") c.send.ensures.ok
+    c.send.ensures.err c.send.ensures.once

@@ -1,4 +1,3 @@
-use Rattle.std.proofs.Common.{inr}
 use Rattle.ds_station.specs.declared.fault.Fault.TheVariants as fault
 use Rattle.ds_drive.proofs.Ending.{bound_asked, has_come, late_bounded, part_nothing}
 use Rattle.ds_drive.proofs.ran.run_bounded.Goals as goal

@@ -1,4 +1,4 @@
-use Rattle.std.proofs.Common.{List, ℕ, suc, ◌≡◌, ap, sym, ◌∙◌, arith, length}
+use Rattle.std.proofs.Common.{List, ℕ, suc, ◌≡◌, ap, sym, arith, length}
 use Rattle.ds_asm.specs.Assembly.{lines_of}
 use Rattle.ds_asm.proofs.SourceLines.{after_within, lines_of-first}
 use Rattle.ds_explain.proofs.chosen.count_of.Goals as goal

@@ -1,5 +1,5 @@
 use Rattle.std.proofs.Common.{inl, inr, map, string_bytes}
-use Rattle.ds_drive.proofs.Wishes.{asks_run, asks_trace}
+use Rattle.ds_drive.proofs.Wishes.{asks_explain, asks_run, asks_trace}
 use Rattle.ds_steps.proofs.steps.stations_write.Goals as goal
 
 pub returns-in-Some : goal.returns-in-Some
@@ -13,3 +13,9 @@ returns-in-Ok-Ok-Trace g c same =
     let asks = asks_trace (map string_bytes c.args.words.now) c.wish_of.result c.in-Ok-Ok-Trace.field-0 c.in-Ok-Ok-Trace.is c.in-Ok-Ok-Trace.field-0-0
     c.in-Ok-Ok-Trace.field-0-0-0 c.in-Ok-Ok-Trace.field-0-is c.in-Ok-Ok-Trace.field-0-0-is c.wish_of.ensures.trace in
     inl (inr (inr (inr (inr (inl (c.in-Ok-Ok-Trace.field-0-0-0, asks))))))
+
+pub returns-in-Ok-Ok-Explain : goal.returns-in-Ok-Ok-Explain
+returns-in-Ok-Ok-Explain g c same =
+    let asks = asks_explain (map string_bytes c.args.words.now) c.wish_of.result c.in-Ok-Ok-Explain.field-0 c.in-Ok-Ok-Explain.is c.in-Ok-Ok-Explain.field-0-0
+    c.in-Ok-Ok-Explain.field-0-0-0 c.in-Ok-Ok-Explain.field-0-is c.in-Ok-Ok-Explain.field-0-0-is c.wish_of.ensures.explain in
+    inl (inr (inr (inr (inr (inr (inl (c.in-Ok-Ok-Explain.field-0-0-0, asks)))))))

@@ -1,16 +1,13 @@
-use Rattle.std.proofs.Common.{◌≡◌, ◌∙◌, List, ℕ, ◌++◌, ap, subst, OnOk, codes}
-use Rattle.std.specs.Prelude.{slice_index}
+use Rattle.std.proofs.Common.{rules}
 use Rattle.std.specs.String.{string_bytes}
-use Rattle.ds_trace.specs.Calls.{answer_text}
-use Rattle.ds_trace.proofs.Adding.{after_all, joined}
+use Rattle.ds_trace.specs.Lines.{instruction_text, source_text}
+use Rattle.ds_trace.specs.Shows.{found_held}
+use Rattle.ds_trace.proofs.Adding.{gives, line_joined}
 use Rattle.ds_trace.proofs.lines.push_line.Goals as goal
 
 pub returns : goal.returns
-returns g c =
-    subst (λ (l : List ℕ). OnOk c.push_newline.result (string_bytes c.push_newline.new.text ≡ l))
-    (after_all _ _ _ (codes "\n")
-    (joined _ _ _ _ _
-    (joined _ _ _ _ _ (joined _ _ _ _ _ c.in_ok-push_front.ensures c.in_ok-push_call.ensures) c.in_ok-push_result.ensures)
-    (c.in_ok-push_answer.ensures
-    ∙ ap (λ (n : ℕ). string_bytes c.push_result.new.line ++ answer_text c.args.told.call n) (c.held_in.ensures ∙ ap (λ (l : List ℕ). slice_index l 2) c.general-general.ensures.held))))
-    c.push_newline.ensures
+returns g c = gives c.extend_from_slice.result
+    (λ last. line_joined c.args.text.now.items (source_text c.args.view.now c.args.told) c.push_source.new.text.items (string_bytes c.clear.new.self)
+    (instruction_text c.args.view.now c.args.told (found_held c.args.told.process c.args.station.now.held)) (string_bytes c.push_instruction.new.line) c.extend_from_slice.new.self.items
+    c.in_ok-push_source.ensures (search rules) c.in_ok-push_instruction.ensures last)
+    (search rules)

@@ -33,4 +33,5 @@ returns-clause-some c =
       };
       memory = c.in_ok-spans_named.ensures.some;
       spans = c.in_ok-spans_named.ensures.good;
+      names = c.names_of.ensures;
     }

@@ -11,6 +11,7 @@ returns-clause-some c =
       file = word_found found _ c.get_str.result c.in_ok-get_str.field-0 c.get_str.ensures c.in_ok-get_str.was;
       words = λ is. c.get_flag.ensures.value (one_text-rows found _ ∙ is);
       source = λ is. c.get_flag.ensures.other (one_text-rows found _ ∙ is);
+      names = c.names_of.ensures;
     }
 
 pub returns-in_err-get_str-clause-none : goal.returns-in_err-get_str-clause-none

@@ -1,4 +1,4 @@
-use Rattle.std.proofs.Common.{◌≡◌, ◌∙◌, ℕ, subst, sym}
+use Rattle.std.proofs.Common.{◌≡◌, ◌∙◌, ℕ, refl, subst, sym}
 use Rattle.std.specs.Prelude.{Option}
 use Rattle.std.specs.Str.Parse.{ParsesUnsigned, ExplainsUnsignedError, HasUnsignedDigitsIfOk}
 use Rattle.clap.specs.Words.{found_of, one_of, rows_of}
@@ -24,4 +24,10 @@ returns-clause-some c =
       lines = λ is. c.get_flag.ensures.other (one_text-rows found _ ∙ is);
       entries = λ is. c.get_flag-2.ensures.value (one_text-rows found _ ∙ is);
       rest = λ is. c.get_flag-2.ensures.other (one_text-rows found _ ∙ is);
+      source = record {
+        there = λ is. c.get_flag-3.ensures.value (one_text-rows found _ ∙ is);
+        absent = λ is. c.get_flag-3.ensures.other (one_text-rows found _ ∙ is);
+      };
+      names = c.names_of.ensures;
+      pages = refl;
     }

@@ -1,0 +1,23 @@
+-- Pages with the lines of their sources.
+use Rattle.std.proofs.Common.{◌≡◌, ◌∙◌, ap, sym, get_or, ℕ, ◌+◌, ◌<◌, List, [], ◌∷◌, ◌++◌, append_assoc, drop, length, Option}
+use Rattle.std.proofs.lemmas.List.{drop_more, map-append}
+use Rattle.std.specs.Prelude.{option_map}
+use Rattle.ds_check.specs.Starts.{Assembled}
+use Rattle.ds_listing.specs.declared.pages.PageLines.{PageLines}
+use Rattle.ds_listing.specs.Pages.{PagePlaces, plain_page, plain_pages}
+use Rattle.ds_policy.specs.declared.policy.PolicyPage.{PolicyPage}
+use Rattle.ds_log_reasons.specs.Places.{page_with, pages_with}
+
+-- a page more
+pub page_placed : (sources : Assembled) (pages : List PolicyPage) (i : ℕ) (page : PolicyPage) (old new : List (Option PageLines)) (one : Option PageLines) (whole : List (Option PagePlaces))
+    → page ≡ get_or pages i page → i < length pages
+    → option_map plain_page one ≡ page_with sources page.source → new ≡ old ++ one ∷ []
+    → plain_pages old ++ pages_with sources (drop i pages) ≡ whole
+    → plain_pages new ++ pages_with sources (drop (i + 1) pages) ≡ whole
+page_placed sources pages i page old new one whole here within is adds h =
+    let first : drop i pages ≡ page ∷ drop (i + 1) pages = drop_more pages i page within ∙ ap (λ (p : PolicyPage). p ∷ drop (i + 1) pages) (sym here) in
+    let rest : List (Option PagePlaces) = pages_with sources (drop (i + 1) pages) in
+    ap (λ (ps : List (Option PagePlaces)). ps ++ rest) (ap plain_pages adds ∙ map-append (λ p. option_map plain_page p) old (one ∷ []))
+    ∙ (append_assoc (plain_pages old) (option_map plain_page one ∷ []) rest
+    ∙ (ap (λ (p : Option PagePlaces). plain_pages old ++ p ∷ rest) is
+    ∙ (ap (λ (ps : List PolicyPage). plain_pages old ++ pages_with sources ps) (sym first) ∙ h)))
