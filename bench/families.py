@@ -4,6 +4,7 @@
     bench/families.py [PROGRAM]            seconds of processor time of one call, for each family and call
     bench/families.py --count [PROGRAM]    host instructions in place of seconds, by callgrind (valgrind)
     bench/families.py --alone PROGRAM      host instructions of one call alone, where nearly nothing is shared
+    bench/families.py --guest DSMON        seconds of processor time of a million ticks of a guest that drops and gives, with full tables
 
 PROGRAM is part_cases, as `(cd crates/part_cases && rt run)` proves and builds it. It replays two files over both buffers: the
 shares, and the shares with a call after them; a call is half of the difference, of the least of nine runs each, which may be wrong by
@@ -21,6 +22,8 @@ dropped, taken and revoked, with so many shares of it in as many processes, or a
 processes are counted, whose 1,024 entries were each shared from the one before. Counted is what callgrind collects in the function of the
 call, for each buffer: so PROGRAM has to keep `Grants::take` and the others as functions, and no comparison is a part of it. A proved program
 has them inlined; one from the code that `rt try` hands to LLVM, with its checks taken out and these marked `noinline`, keeps them.
+
+With `--guest` process 1 of 100 gives until each has 255 or 256 entries, some 230,000 ticks, and then goes on as `families.s` says.
 """
 import os
 import re
@@ -125,11 +128,30 @@ def replayed(program, lines, words=()):
     return int(counted[1]) if counted else took
 
 
+def time_guest(program):
+    with tempfile.TemporaryDirectory() as folder:
+        rules = [f'{{ process = {n}, address = 0x00400000, right = "read", page = "code" }}' for n in range(1, PROCESSES + 1)]
+        rules.append('{ process = 1, address = 0x00410000, right = "write", page = "data", give = true }')
+        processes = ", ".join(["{ start = 0x00400000, line = 0 }"] * PROCESSES)
+        pages = '{ name = "code", source = "families.s", part = 0 }, { name = "data" }'
+        Path(folder, "families.toml").write_text(f"version = 1\nframes = 16\nprocess = [{processes}]\npage = [{pages}]\nrule = [{', '.join(rules)}]\n")
+        for name in ("families.s", "quiet.txt"):
+            Path(folder, name).write_bytes((TOP / "bench" / name).read_bytes())
+        took = {}
+        for ticks in [300_000, 1_300_000] * RUNS:
+            before = resource.getrusage(resource.RUSAGE_CHILDREN).ru_utime
+            subprocess.run([program, "run", "families.toml", "quiet.txt", str(ticks)], cwd=folder, stdout=subprocess.DEVNULL, check=True)
+            took.setdefault(ticks, []).append(resource.getrusage(resource.RUSAGE_CHILDREN).ru_utime - before)
+        print(f"{min(took[1_300_000]) - min(took[300_000]):.3f} seconds a million ticks")
+
+
 def main(arguments):
     is_counted = "--count" in arguments
     program = os.path.abspath(next((it for it in arguments if not it.startswith("--")), PROGRAM))
     if "--alone" in arguments:
         return count_alone(program)
+    if "--guest" in arguments:
+        return time_guest(program)
     words = CALLGRIND if is_counted else []
     for family in ("chain", "zigzag", "fan"):
         made, took = list(shares(family)), {}
