@@ -3,7 +3,7 @@
 
     tools/unit_course.py    says how many states there are and the most of each count; the status is 1 where a count is another than expected
 
-The crate ds_bounds proves of each course that it is tallied, and so that its counts are few. Here the same relation is searched: at each state that can
+The crate ds_refinement proves of each course that it is tallied, and so that its counts are few. Here the same relation is searched: at each state that can
 be reached the same invariant is checked, and the most of each count shows that the bounds are not too wide.
 
 A page that a unit asks for is a letter: F its instruction, S the one in its slot, E its data before the process is touched, A its data after

@@ -50,7 +50,7 @@ LISTS = [
     Asked("", "", [],
           "What is true of every run of the page-map machine, and of its parts: what a user may rely on, which states a run comes to, and what can't be seen.",
           ["a guest's accesses in the rows of `hostile/`, `grants/late/` and `ends/`"],
-          ("ds_pagemap", "ds_pagemap_laws", "ds_promise", "ds_quiet", "ds_alone")),
+          ("ds_pagemap", "ds_pagemap_laws", "ds_promise", "ds_alone")),
     Asked(TRACE, "trace_files", [],
           "What a trace tells of a run: its lines, its counts and how each process stands at the end.",
           ["`tools/trace_model.py`, which writes the text of each row of `traces/`"]),

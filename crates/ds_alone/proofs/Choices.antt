@@ -11,9 +11,9 @@ use Rattle.ds_pagemap.proofs.Processes.{process_of-with_process}
 use Rattle.ds_pagemap_laws.proofs.LawfulRuns.{half_lawful}
 use Rattle.ds_promise.proofs.Entries.{false_is_not_true}
 use Rattle.ds_promise.proofs.WholeStates.{half_whole}
-use Rattle.ds_quiet.specs.Alike.{AreAlike}
-use Rattle.ds_quiet.specs.Quiet.{quiet_first}
-use Rattle.ds_quiet.proofs.Inputs.{have_registers}
+use Rattle.ds_promise.specs.Alike.{AreAlike}
+use Rattle.ds_promise.specs.Quiet.{quiet_first}
+use Rattle.ds_promise.proofs.Inputs.{have_registers}
 use Rattle.ds_alone.specs.Alone.{IsAlone, StandsAlone, unit_gives, NothingWaits, SeemsAlike}
 use Rattle.ds_alone.specs.Deeds.{deed, runs, only, is_ready, deeds_alone, next_asks_nothing, asks_nothing_alone}
 use Rattle.ds_alone.specs.Touched.{Doing, doing, doings, is_given_nothing_by, quiet_alone}

@@ -15,7 +15,7 @@ use Rattle.ds_pagemap.specs.Run.{after, Reaches}
 use Rattle.ds_pagemap_laws.specs.Lawful.{IsLawful}
 use Rattle.ds_pagemap_laws.proofs.FirstStates.{made, first_lawful, inputs_lawful}
 use Rattle.ds_promise.proofs.FirstPages.{inputs_whole, made_under, under_whole}
-use Rattle.ds_quiet.specs.Quiet.{quiet_first}
+use Rattle.ds_promise.specs.Quiet.{quiet_first}
 use Rattle.ds_alone.specs.Alone.{StandsAlone, NothingWaits, SeemsAlike}
 use Rattle.ds_alone.specs.Deeds.{Deed, deeds_alone, puts, only, is_ready, next_asks_nothing, asks_nothing_alone, AsksNothing, IsFront, AreFronts}
 use Rattle.ds_alone.specs.Touched.{Doing, doing, doings, is_given_nothing_by, quiet_alone, IsQuietAlone, puts_by}

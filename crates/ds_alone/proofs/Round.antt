@@ -4,7 +4,7 @@ use Rattle.std.specs.Prelude.{◌&&◌}
 use Rattle.std.proofs.lemmas.Bool.{cases_lt}
 use Rattle.ds_pagemap.specs.Machine.{State, process_of}
 use Rattle.ds_pagemap.specs.Unit.{unit}
-use Rattle.ds_quiet.specs.Quiet.{quiet_first}
+use Rattle.ds_promise.specs.Quiet.{quiet_first}
 use Rattle.ds_alone.specs.Alone.{NothingWaits, SeemsAlike}
 use Rattle.ds_alone.specs.Deeds.{only, is_ready, next_asks_nothing, asks_nothing_alone, AsksNothing, alone_after}
 use Rattle.ds_alone.specs.Tests.{GoesRound}

@@ -39,12 +39,12 @@ use Rattle.ds_promise.proofs.Lines.{unit_lines}
 use Rattle.ds_promise.proofs.Seen.{stay_alike}
 use Rattle.ds_promise.proofs.Stores.{touched_owed}
 use Rattle.ds_promise.proofs.WholeStates.{touched_whole}
-use Rattle.ds_quiet.specs.Alike.{is_kernel_register, is_quiet, AreLateAlike, AreAlike}
-use Rattle.ds_quiet.specs.Twins.{IsTwinProcess, AreTwins, IsTwin, OutcomesAlike, HaveRegisters}
-use Rattle.ds_quiet.specs.Quiet.{quiet_where, quiet_at, quiet_behind, quiet_first}
-use Rattle.ds_quiet.proofs.Inputs.{have_registers}
-use Rattle.ds_quiet.proofs.Twins.{twin, twins_set}
-use Rattle.ds_quiet.proofs.Units as twins
+use Rattle.ds_promise.specs.Alike.{is_kernel_register, is_quiet, AreLateAlike, AreAlike}
+use Rattle.ds_promise.specs.Twins.{IsTwinProcess, AreTwins, IsTwin, OutcomesAlike, HaveRegisters}
+use Rattle.ds_promise.specs.Quiet.{quiet_where, quiet_at, quiet_behind, quiet_first}
+use Rattle.ds_promise.proofs.Inputs.{have_registers}
+use Rattle.ds_promise.proofs.Twins.{twin, twins_set}
+use Rattle.ds_promise.proofs.Units as twins
 use Rattle.ds_alone.specs.Alone.{SharesNothing, LeavesAlone, HearsNothing, IsAlone, StandsAlone, SeemsAlike}
 use Rattle.ds_alone.specs.Deeds.{untimed, puts_of, deed, asks_nothing, next_asks_nothing, tells_nothing, written_by}
 use Rattle.ds_alone.specs.Touched.{doing}

@@ -1,36 +1,13 @@
 -- All faults of a source: a line at a time, and which is first.
-use Rattle.std.proofs.Common.{◌≡◌, ◌∙◌, sym, ap, subst, refl, ℕ, ◌+◌, ◌≤◌, List, [], ◌∷◌, ◌++◌, length, length-append, append_assoc, Option, Some, None, Result, Ok, Err, arith}
+use Rattle.std.proofs.Common.{◌≡◌, ◌∙◌, sym, ap, subst, refl, ℕ, ◌+◌, List, [], ◌∷◌, ◌++◌, length, length-append, append_assoc, Option, Result, Ok, Err, arith}
 use Rattle.std.specs.Option.{option_to_list}
 use Rattle.ds_word.proofs.ResultBinding.{bind_ok}
 use Rattle.ds_word.specs.ResultBinding.{◌>>=◌}
-use Rattle.ds_asm.specs.Lines.{Statement, Line, line_of}
+use Rattle.ds_asm.specs.Lines.{Line, line_of}
 use Rattle.ds_asm.specs.declared.fault.SourceFault.{SourceFault}
-use Rattle.ds_asm.specs.Assembly.{Labels, Layout, empty_layout, address_of, labelled, sized, with_line, with_lines, optional_bytes, line_bytes, bytes_from, lines_of, assembled}
-use Rattle.ds_asm.specs.Faults.{optional_size, size_in, fault_in, labels_past, layout_past, first_faults, second_faults, faults_by, all_faults, BeginsWith}
-use Rattle.ds_asm.proofs.ImageSizes.{statement_length, sized_more}
-
--- a line that is let in makes the image longer by its size
-optional_more : (n at : ℕ) (s : Option Statement) (size : ℕ) → at ≤ 65536 → sized n at s ≡ Ok size → (size ≡ at + optional_size s) × (size ≤ 65536)
-optional_more n at None size few h = let same : at ≡ size = cc in (omega arith, omega arith)
-optional_more n at (Some s) size few h = sized_more n at s size h
-
-pub laid_size : (n : ℕ) (m next : Layout) (x : Option Line) → m.size ≤ 65536 → with_line n x m ≡ Ok next → (next.size ≡ m.size + size_in x) × (next.size ≤ 65536)
-laid_size n m next None few h = cc
-laid_size n m next (Some line) few h =
-    let (labels, a, b) = bind_ok (labelled n m.size line.label m.labels) _ next h in
-    let (size, c, d) = bind_ok (sized n m.size line.statement) (λ size. Ok (record { labels = labels; size = size })) next b in
-    let same : size ≡ next.size = (let e : record { labels = labels; size = size } ≡ next = cc in ap (λ (l : Layout). l.size) e) in
-    let (grown, room) = optional_more n m.size line.statement size few c in
-    (omega arith, omega arith)
-
--- and its bytes are as many
-optional_length : (n : ℕ) (find : List ℕ → Option ℕ) (at : ℕ) (s : Option Statement) (more : List ℕ) → optional_bytes n find at s ≡ Ok more → length more ≡ optional_size s
-optional_length n find at None more h = let e : [] ≡ more = cc in sym (ap (λ (xs : List ℕ). length xs) e)
-optional_length n find at (Some s) more h = statement_length n find at s more h
-
-pub line_length : (n : ℕ) (find : List ℕ → Option ℕ) (at : ℕ) (x : Option Line) (more : List ℕ) → line_bytes n find at x ≡ Ok more → length more ≡ size_in x
-line_length n find at None more h = let e : [] ≡ more = cc in sym (ap (λ (xs : List ℕ). length xs) e)
-line_length n find at (Some line) more h = optional_length n find at line.statement more h
+use Rattle.ds_asm.specs.Assembly.{Labels, Layout, empty_layout, address_of, with_line, with_lines, line_bytes, bytes_from, lines_of, assembled}
+use Rattle.ds_asm.specs.Faults.{size_in, fault_in, labels_past, layout_past, first_faults, second_faults, faults_by, all_faults, BeginsWith}
+use Rattle.ds_asm.proofs.ImageSizes.{line_length}
 
 -- One line more.
 pub one_more : (xs more tail rest whole : List SourceFault) → rest ≡ more ++ tail → xs ++ rest ≡ whole → (xs ++ more) ++ tail ≡ whole

@@ -1,6 +1,6 @@
 -- The two passes agree: the second has as many bytes as the first has counted, and labels that are
 -- looked up alike give the same bytes.
-use Rattle.std.proofs.Common.{◌≡◌, inl, inr, ◌∙◌, sym, ap, subst, refl, ℕ, ◌+◌, ◌%◌, ◌^◌, ◌≤◌, ◌&&◌, List, [], ◌∷◌, ◌++◌, length, length-append, replicate, Option, Some, None, Result, Ok, Err, arith, nat_lt}
+use Rattle.std.proofs.Common.{◌≡◌, inl, inr, ◌∙◌, sym, ap, refl, ℕ, ◌+◌, ◌%◌, ◌^◌, ◌≤◌, ◌&&◌, List, [], ◌∷◌, ◌++◌, length, length-append, replicate, Option, Some, None, Result, Ok, Err, arith, nat_lt}
 use Rattle.std.proofs.lemmas.Bool.{cases_Bool, ltb-false}
 use Rattle.std.proofs.lemmas.List.{length-replicate}
 use Rattle.ds_word.proofs.ResultBinding.{bind_ok}
@@ -10,6 +10,7 @@ use Rattle.ds_asm.specs.Numbers.{as_word}
 use Rattle.ds_asm.specs.Operands.{Instruction, Target, Nowhere, BranchTo, JumpTo}
 use Rattle.ds_asm.specs.Lines.{Statement, Encoded, WordNumber, WordLabel, Byte, Space, Line, line_of}
 use Rattle.ds_asm.specs.declared.fault.SourceFault.{SourceFault}
+use Rattle.ds_asm.specs.Faults.{optional_size, size_in}
 use Rattle.ds_asm.specs.Assembly.{origin, most_bytes, size_of, is_in_range, is_aligned, Layout, labelled, sized, with_line, with_lines, resolved, known, word_bytes, statement_bytes, optional_bytes, line_bytes, bytes_from, address_of, empty_layout, lines_of, assembled}
 
 word_length : (r : Result ℕ SourceFault) (more : List ℕ) → word_bytes r ≡ Ok more → length more ≡ 4
@@ -25,7 +26,7 @@ statement_length n find at (Byte x) more h = let same : (as_word x % 2 ^ 8) ∷ 
 statement_length n find at (Space x) more h = let same : replicate x.magnitude 0 ≡ more = cc in sym (ap length same) ∙ length-replicate x.magnitude 0
 
 -- a statement that is let in makes the image longer by its size, and no longer than it may be
-pub sized_more : (n at : ℕ) (s : Statement) (size : ℕ) → sized n at (Some s) ≡ Ok size → (size ≡ at + size_of s) × (size ≤ 65536)
+sized_more : (n at : ℕ) (s : Statement) (size : ℕ) → sized n at (Some s) ≡ Ok size → (size ≡ at + size_of s) × (size ≤ 65536)
 sized_more n at s size h = elim (cases_Bool (is_in_range s && is_aligned at s)) [
   | inr bad ↦ let k = rw bad at h in cc
   | inl good ↦ let k = rw good at h in elim (cases_Bool (nat_lt most_bytes (at + size_of s))) [
@@ -37,26 +38,28 @@ sized_more n at s size h = elim (cases_Bool (is_in_range s && is_aligned at s)) 
   ]
 ]
 
-optional_size : (n : ℕ) (find : List ℕ → Option ℕ) (at : ℕ) (s : Option Statement) (size : ℕ) (more : List ℕ) → at ≤ 65536 → sized n at s ≡ Ok size → optional_bytes n find at s ≡ Ok more
-    → (size ≡ at + length more) × (size ≤ 65536)
-optional_size n find at None size more few h k =
-    let same : at ≡ size = cc in
-    let none : length more ≡ 0 = (let e : [] ≡ more = cc in sym (ap (λ (xs : List ℕ). length xs) e)) in
-    (omega arith, omega arith)
-optional_size n find at (Some s) size more few h k =
-    let (grown, room) = sized_more n at s size h in
-    let long = statement_length n find at s more k in
-    (omega arith, room)
+-- a line that is let in makes the image longer by its size
+optional_more : (n at : ℕ) (s : Option Statement) (size : ℕ) → at ≤ 65536 → sized n at s ≡ Ok size → (size ≡ at + optional_size s) × (size ≤ 65536)
+optional_more n at None size few h = let same : at ≡ size = cc in (omega arith, omega arith)
+optional_more n at (Some s) size few h = sized_more n at s size h
 
-pub line_size : (n : ℕ) (find : List ℕ → Option ℕ) (m next : Layout) (x : Option Line) (more : List ℕ) → m.size ≤ 65536 → with_line n x m ≡ Ok next → line_bytes n find m.size x ≡ Ok more
-    → (next.size ≡ m.size + length more) × (next.size ≤ 65536)
-line_size n find m next None more few h k = cc
-line_size n find m next (Some line) more few h k =
+pub laid_size : (n : ℕ) (m next : Layout) (x : Option Line) → m.size ≤ 65536 → with_line n x m ≡ Ok next → (next.size ≡ m.size + size_in x) × (next.size ≤ 65536)
+laid_size n m next None few h = cc
+laid_size n m next (Some line) few h =
     let (labels, a, b) = bind_ok (labelled n m.size line.label m.labels) _ next h in
     let (size, c, d) = bind_ok (sized n m.size line.statement) (λ size. Ok (record { labels = labels; size = size })) next b in
     let same : size ≡ next.size = (let e : record { labels = labels; size = size } ≡ next = cc in ap (λ (l : Layout). l.size) e) in
-    let (grown, room) = optional_size n find m.size line.statement size more few c k in
+    let (grown, room) = optional_more n m.size line.statement size few c in
     (omega arith, omega arith)
+
+-- and its bytes are as many
+optional_length : (n : ℕ) (find : List ℕ → Option ℕ) (at : ℕ) (s : Option Statement) (more : List ℕ) → optional_bytes n find at s ≡ Ok more → length more ≡ optional_size s
+optional_length n find at None more h = let e : [] ≡ more = cc in sym (ap (λ (xs : List ℕ). length xs) e)
+optional_length n find at (Some s) more h = statement_length n find at s more h
+
+pub line_length : (n : ℕ) (find : List ℕ → Option ℕ) (at : ℕ) (x : Option Line) (more : List ℕ) → line_bytes n find at x ≡ Ok more → length more ≡ size_in x
+line_length n find at None more h = let e : [] ≡ more = cc in sym (ap (λ (xs : List ℕ). length xs) e)
+line_length n find at (Some line) more h = optional_length n find at line.statement more h
 
 pub bytes_fit : (n : ℕ) (find : List ℕ → Option ℕ) (m last : Layout) (bytes out : List ℕ) (lines : List (List ℕ)) → length bytes ≡ m.size → m.size ≤ 65536
     → with_lines n m lines ≡ Ok last → bytes_from n find bytes lines ≡ Ok out → length out ≤ 65536
@@ -64,7 +67,8 @@ bytes_fit n find m last bytes out [] same few h k = let e : bytes ≡ out = cc i
 bytes_fit n find m last bytes out (line ∷ lines) same few h k =
     let (next, a, b) = bind_ok (with_line n (line_of line) m) (λ more. with_lines (n + 1) more lines) last h in
     let (more, c, d) = bind_ok (line_bytes n find (length bytes) (line_of line)) (λ more. bytes_from (n + 1) find (bytes ++ more) lines) out k in
-    let (grown, room) = line_size n find m next (line_of line) more few a (subst (λ (k : ℕ). line_bytes n find k (line_of line) ≡ Ok more) same c) in
+    let (grown, room) = laid_size n m next (line_of line) few a in
+    let long = line_length n find (length bytes) (line_of line) more c in
     bytes_fit (n + 1) find next last (bytes ++ more) out lines (omega (arith, length-append bytes more)) room b d
 
 -- Labels that are looked up alike.

@@ -1,5 +1,5 @@
 -- What a source says: the bytes of its statements one after the other, or its first fault.
-use Rattle.std.specs.Prelude.{ℕ, ◌+◌, ◌-◌, ◌/◌, ◌%◌, ◌^◌, Bool, true, false, not, ◌&&◌, ◌==◌, nat_le, nat_lt, bytes_eq, if◌then◌else◌, List, [], ◌∷◌, ◌++◌, length, replicate, Option, Some, None, is_some, Result, Ok, Err}
+use Rattle.std.specs.Prelude.{ℕ, ◌+◌, ◌-◌, ◌/◌, ◌%◌, ◌^◌, Bool, true, false, not, ◌&&◌, ◌==◌, nat_le, nat_lt, bytes_eq, if◌then◌else◌, List, [], ◌∷◌, ◌++◌, length, replicate, Option, Some, None, is_none, is_some, Result, Ok, Err}
 use Rattle.std.specs.List.{slice_split}
 use Rattle.ds_word.specs.Bytes.{bytes_of_word}
 use Rattle.ds_word.specs.ResultBinding.{◌>>=◌}
@@ -7,9 +7,12 @@ use Rattle.ds_isa.specs.declared.instr.Instr.{Instr}
 use Rattle.ds_isa.specs.declared.instr.Instr.TheVariants as instr
 use Rattle.ds_isa.specs.Fields.{imm, target}
 use Rattle.ds_isa.specs.Instruction.{instruction_of}
+use Rattle.ds_asm.specs.declared.cause.Cause.{Cause}
+use Rattle.ds_asm.specs.declared.cause.Cause.TheVariants.{OutOfRange, NotAligned, Reserved}
 use Rattle.ds_asm.specs.declared.fault.SourceFault.{SourceFault}
 use Rattle.ds_asm.specs.declared.fault.SourceFault.TheVariants.{Syntax, UnknownLabel, DoubleLabel, Range, TooLong}
-use Rattle.ds_asm.specs.Numbers.{is_within, as_word}
+use Rattle.ds_asm.specs.declared.number.Bounds.{Bounds}
+use Rattle.ds_asm.specs.Numbers.{is_within, out_of_range, as_word}
 use Rattle.ds_asm.specs.Operands.{Instruction, Target, Nowhere, BranchTo, JumpTo, with_value}
 use Rattle.ds_asm.specs.Lines.{Statement, Encoded, WordNumber, WordLabel, Byte, Space, Line, line_of}
 
@@ -60,7 +63,7 @@ size_of (Space n) = n.magnitude
 
 -- whether a statement's numbers and registers are in range
 abbrev pub is_in_range : Statement → Bool
-is_in_range (Encoded i) = i.in_range && not (is_reserved_word i.word)
+is_in_range (Encoded i) = is_none i.out_of_range && not (is_reserved_word i.word)
 is_in_range (WordNumber n) = is_within 2147483648 4294967295 n
 is_in_range (WordLabel name) = true
 is_in_range (Byte n) = is_within 128 255 n
@@ -73,6 +76,23 @@ is_aligned at (Space n) = true
 is_aligned at (Encoded i) = at % 4 == 0
 is_aligned at (WordNumber n) = at % 4 == 0
 is_aligned at (WordLabel name) = at % 4 == 0
+
+-- the bounds of a statement's first number that is out of range
+abbrev pub bounds_in : Statement → Option Bounds
+bounds_in (Encoded i) = i.out_of_range
+bounds_in (WordNumber n) = out_of_range 2147483648 4294967295 n
+bounds_in (WordLabel name) = None
+bounds_in (Byte n) = out_of_range 128 255 n
+bounds_in (Space n) = out_of_range 0 most_bytes n
+
+-- why a statement that is refused at a place of the image is, by the bounds of its number that is out of range, where it has one
+abbrev pub cause_by : ℕ → Option Bounds → Cause
+cause_by at (Some b) = OutOfRange b
+cause_by at None = if at % 4 == 0 then Reserved else NotAligned
+
+-- why a statement may not stand at a place of the image, if it may not
+abbrev pub cause_at : ℕ → Statement → Option Cause
+cause_at at s = if is_in_range s && is_aligned at s then None else Some (cause_by at (bounds_in s))
 
 -- the labels so far, and the size of the image so far
 pub record Layout : Type 0 where
@@ -88,13 +108,15 @@ abbrev pub labelled : ℕ → ℕ → Option (List ℕ) → Labels → Result La
 labelled n at None labels = Ok labels
 labelled n at (Some name) labels = if is_some (address_of labels name) then Err (DoubleLabel n) else Ok ((name, origin + at) ∷ labels)
 
+-- this size of the image, unless it is too much, or there is a cause against its last statement
+abbrev pub sized_by : ℕ → ℕ → Option Cause → Result ℕ SourceFault
+sized_by n size (Some cause) = Err (Range n)
+sized_by n size None = if nat_lt most_bytes size then Err (TooLong n) else Ok size
+
 -- the size of the image with a statement
 abbrev pub sized : ℕ → ℕ → Option Statement → Result ℕ SourceFault
 sized n at None = Ok at
-sized n at (Some s) =
-    if not (is_in_range s && is_aligned at s) then Err (Range n)
-    else if nat_lt most_bytes (at + size_of s) then Err (TooLong n)
-    else Ok (at + size_of s)
+sized n at (Some s) = sized_by n (at + size_of s) (cause_at at s)
 
 -- the layout with what line n says, which is none where it has no meaning
 abbrev pub with_line : ℕ → Option Line → Layout → Result Layout SourceFault

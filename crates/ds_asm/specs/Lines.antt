@@ -25,9 +25,13 @@ unless_empty (c ∷ cs) = Some (c ∷ cs)
 abbrev pub mnemonic_of : List ℕ → List ℕ
 mnemonic_of text = before_first is_blank text
 
+-- what stands after the first word of a text and its blanks
+abbrev pub after_word : List ℕ → List ℕ
+after_word text = without_front_blanks (drop (position_or_len is_blank text) text)
+
 -- what stands after the mnemonic and its blanks, if anything does
 abbrev pub after_mnemonic : List ℕ → Option (List ℕ)
-after_mnemonic text = unless_empty (without_front_blanks (drop (position_or_len is_blank text) text))
+after_mnemonic text = unless_empty (after_word text)
 
 -- a number, or else a label
 abbrev pub label_word : List ℕ → Option Statement

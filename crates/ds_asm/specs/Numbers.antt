@@ -1,7 +1,8 @@
 -- Numbers in a source.
-use Rattle.std.specs.Prelude.{codes, ℕ, ◌-◌, ◌%◌, ◌^◌, Bool, true, false, ◌&&◌, ◌==◌, nat_le, bytes_eq, if◌then◌else◌, List, [], ◌∷◌, length, take, drop, Option, None, option_map}
+use Rattle.std.specs.Prelude.{codes, ℕ, ◌-◌, ◌%◌, ◌^◌, Bool, true, false, ◌&&◌, ◌==◌, nat_le, bytes_eq, if◌then◌else◌, List, [], ◌∷◌, length, take, drop, Option, Some, None, option_map}
 use Rattle.ds_word.specs.Digits.{digits_from}
 use Rattle.ds_asm.specs.declared.number.Number.{Number}
+use Rattle.ds_asm.specs.declared.number.Bounds.{Bounds}
 
 -- one to ten decimal digits
 abbrev pub decimal_of : List ℕ → Option ℕ
@@ -25,6 +26,10 @@ number_of (c ∷ rest) =
 -- a number isn't below -least, nor above most
 abbrev pub is_within : ℕ → ℕ → Number → Bool
 is_within least most n = if n.negative then nat_le n.magnitude least else nat_le n.magnitude most
+
+-- the bounds of a number, unless it is from -least to most
+abbrev pub out_of_range : ℕ → ℕ → Number → Option Bounds
+out_of_range least most n = if is_within least most n then None else Some (record { least = least; most = most })
 
 -- a number as a word, in two's complement
 abbrev pub as_word : Number → ℕ

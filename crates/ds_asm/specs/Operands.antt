@@ -1,12 +1,14 @@
 -- From the text of operands to what an instruction has in their places.
 use Rattle.std.specs.Prelude.{ℕ, ◌+◌, ◌-◌, ◌*◌, ◌%◌, ◌^◌, Bool, true, false, not, ◌&&◌, ◌==◌, nat_lt, if◌then◌else◌, List, [], ◌∷◌, length, take, slice_index, Option, Some, None, option_map}
 use Rattle.std.specs.List.{position_or_len}
+use Rattle.std.specs.Option.{option_or}
 use Rattle.ds_word.specs.OptionBinding.{◌>>=◌}
 use Rattle.ds_word.specs.Word.{word}
 use Rattle.ds_isa.specs.Fields.{Field, rd, Operand, Register, LinkRegister, SystemRegister, Number, Code, Signed, Branch, Jump, Indexed}
 use Rattle.ds_asm.specs.declared.number.Number as code
+use Rattle.ds_asm.specs.declared.number.Bounds.{Bounds}
 use Rattle.ds_asm.specs.Characters.{is_name, trimmed, until, after}
-use Rattle.ds_asm.specs.Numbers.{number_of, is_within, as_word}
+use Rattle.ds_asm.specs.Numbers.{out_of_range, number_of, as_word}
 use Rattle.ds_asm.specs.RegisterNames.{register_of, system_register_of}
 
 -- the label that an instruction goes to, if it does
@@ -15,16 +17,16 @@ pub data Target : Type 0 where
   BranchTo : (name : List ℕ) → Target
   JumpTo : (name : List ℕ) → Target
 
--- what the text of an instruction says: its word with 0 in the place of a label, whether its
--- numbers are in range, and its label
+-- what the text of an instruction says: its word with 0 in the place of a label, the bounds of its
+-- first number that is out of range, and its label
 pub record Instruction : Type 0 where
   pub word : ℕ
-  pub in_range : Bool
+  pub out_of_range : Option Bounds
   pub target : Target
 
 -- an instruction without operands
 abbrev pub bare : ℕ → Instruction
-bare w = record { word = w; in_range = true; target = Nowhere }
+bare w = record { word = w; out_of_range = None; target = Nowhere }
 
 -- with a value added in a field, cut to the field's width
 abbrev pub with_value : Field → ℕ → Instruction → Instruction
@@ -32,7 +34,7 @@ with_value f v i = record i { word = word (i.word + v % 2 ^ f.width * 2 ^ f.lo) 
 
 -- with a number in a field, which is to be from -least to most
 abbrev pub with_number : Field → ℕ → ℕ → code.Number → Instruction → Instruction
-with_number f least most n i = record (with_value f (as_word n) i) { in_range = i.in_range && is_within least most n }
+with_number f least most n i = record (with_value f (as_word n) i) { out_of_range = option_or i.out_of_range (out_of_range least most n) }
 
 -- with the label that it goes to
 abbrev pub with_target : Target → Instruction → Instruction

@@ -17,7 +17,7 @@ plain_target (target.Jump name) = operands.JumpTo name.now
 
 -- an instruction, with the name of its target as a list
 abbrev pub plain_instruction : Instruction → operands.Instruction
-plain_instruction i = record { word = i.word; in_range = i.in_range; target = plain_target i.target }
+plain_instruction i = record { word = i.word; out_of_range = i.out_of_range; target = plain_target i.target }
 
 -- a statement, with its names as lists
 abbrev pub plain_statement : Statement → lines.Statement

@@ -1,5 +1,6 @@
 -- Registers in a source.
 use Rattle.std.specs.Prelude.{codes, ℕ, ◌+◌, ◌-◌, ◌*◌, not, ◌&&◌, ◌==◌, nat_lt, bytes_eq, position, if◌then◌else◌, List, [], ◌∷◌, Option, Some, None}
+use Rattle.std.specs.Option.{option_or}
 use Rattle.ds_asm.specs.Characters.{is_digit}
 
 -- the names of the registers 0 to 31
@@ -20,11 +21,6 @@ register_numbered _ = None
 abbrev pub register_named : List ℕ → Option ℕ
 register_named name = position (λ r. bytes_eq r name) register_names
 
--- the first number, or else the second
-abbrev pub or_else : Option ℕ → Option ℕ → Option ℕ
-or_else (Some n) other = Some n
-or_else None other = other
-
 -- a register of the system coprocessor, which has a number only
 abbrev pub system_register_of : List ℕ → Option ℕ
 system_register_of [] = None
@@ -33,4 +29,4 @@ system_register_of (c ∷ rest) = if c == 36 then register_numbered rest else No
 -- a general register, by its number or its name
 abbrev pub register_of : List ℕ → Option ℕ
 register_of [] = None
-register_of (c ∷ rest) = if c == 36 then or_else (register_numbered rest) (register_named rest) else None
+register_of (c ∷ rest) = if c == 36 then option_or (register_numbered rest) (register_named rest) else None

@@ -1,5 +1,5 @@
 //! From the text of operands to what an instruction has in their places.
-ghost use Rattle.std.specs.Prelude.{◌≡◌, ◌==◌, option_map, map};
+ghost use Rattle.std.specs.Prelude.{◌≡◌, ◌==◌, is_some, option_map, map};
 ghost use Rattle.ds_isa.specs.Fields.{rs, imm};
 ghost use Rattle.ds_asm.specs.Forms.{field_of, operand_of};
 ghost use Rattle.ds_asm.specs.Operands.{bare, with_value, with_number, with_target, with_register, with_unsigned, with_signed, with_indexed, with_operand, has_comma, with_first, with_next, with_operands, before_close};
@@ -7,7 +7,7 @@ ghost use Rattle.ds_asm.specs.Plain.{plain_target, plain_instruction};
 
 use crate::characters::{is_name, split_at_first, trimmed};
 use crate::form::{Operand, Place};
-use crate::number::{Number, number_of};
+use crate::number::{Bounds, Number, number_of};
 use crate::register::{register_of, system_register_of};
 
 /// The register that links go to.
@@ -26,39 +26,30 @@ pub enum Target<'a> {
 pub struct Instruction<'a> {
     /// Its word, with 0 in the place of a label.
     pub word: u32,
-    /// Whether its numbers are in range.
-    pub in_range: bool,
+    /// The bounds of its first number that is out of range.
+    pub out_of_range: Option<Bounds>,
     pub target: Target<'a>,
-}
-
-/// The instruction of a word, its operands and their text.
-pub fn instruction_of<'a>(
-    word: u32,
-    operands: &[Operand],
-    text: Option<&'a [u8]>,
-) -> Option<Instruction<'a>>
-    ensures { option_map plain_instruction result
-        ≡ with_operands (map operand_of operands.now) (option_map (λ t. t.now) text.entry)
-        (bare word) }
-{
-    Instruction::bare(word).with_operands(operands, text)
 }
 
 impl<'a> Instruction<'a> {
     /// An instruction without operands.
-    fn bare(word: u32) -> Instruction<'a>
+    pub(crate) fn bare(word: u32) -> Instruction<'a>
         ensures { plain_instruction result ≡ bare word }
     {
         Instruction {
             word,
-            in_range: true,
+            out_of_range: None,
             target: Target::Nowhere,
         }
     }
 
     /// With all operands of what is left of the text.
     #[tactic(auto, unfolding(crate::specs::Operands::with_operands))]
-    fn with_operands(self, operands: &[Operand], left: Option<&'a [u8]>) -> Option<Instruction<'a>>
+    pub(crate) fn with_operands(
+        self,
+        operands: &[Operand],
+        left: Option<&'a [u8]>,
+    ) -> Option<Instruction<'a>>
         ensures { option_map plain_instruction result
             ≡ with_operands (map operand_of operands.now) (option_map (λ t. t.now) left.entry)
             (plain_instruction self.entry) }
@@ -173,7 +164,7 @@ impl<'a> Instruction<'a> {
             ≡ with_unsigned (field_of place) text.now (plain_instruction self.entry) }
     {
         let number = number_of(text)?;
-        Some(self.with_number(place, 0, u64::from(place.most()), &number))
+        Some(self.with_number(place, 0, place.most(), &number))
     }
 
     fn with_register(self, place: Place, register: Option<u32>) -> Option<Instruction<'a>>
@@ -183,19 +174,19 @@ impl<'a> Instruction<'a> {
         Some(self.with_value(place, register?))
     }
 
-    fn with_number(self, place: Place, least: u64, most: u64, number: &Number) -> Instruction<'a>
+    fn with_number(self, place: Place, least: u32, most: u32, number: &Number) -> Instruction<'a>
         ensures { plain_instruction result
             ≡ with_number (field_of place) least most number.now (plain_instruction self.entry) }
     {
         let next = self.with_value(place, number.as_word());
         Instruction {
-            in_range: self.in_range && number.is_within(least, most),
+            out_of_range: self.out_of_range.or(number.out_of_range(least, most)),
             ..next
         }
     }
 
     /// With a value added in its place.
-    pub fn with_value(self, place: Place, value: u32) -> Instruction<'a>
+    pub(crate) fn with_value(self, place: Place, value: u32) -> Instruction<'a>
         ensures { plain_instruction result
             ≡ with_value (field_of place) value (plain_instruction self.entry) }
     {
@@ -210,6 +201,15 @@ impl<'a> Instruction<'a> {
             ≡ with_target (plain_target target.entry) (plain_instruction self.entry) }
     {
         Instruction { target, ..self }
+    }
+}
+
+impl Operand {
+    /// Whether a text may stand in its place.
+    pub fn takes(self, text: &[u8]) -> bool
+        ensures { result ≡ is_some (with_operand (operand_of self) text.now (bare 0)) }
+    {
+        Instruction::bare(0).with_operand(self, text).is_some()
     }
 }
 

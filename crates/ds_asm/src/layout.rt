@@ -102,7 +102,7 @@ fn sized(number: u64, at: u32, statement: Option<Statement<'_>>) -> Result<u32, 
         Some(statement) => statement,
         None => return Ok(at),
     };
-    if !(statement.is_in_range() && statement.is_aligned(at)) {
+    if let Some(_) = statement.cause_at(u64::from(at)) {
         return Err(AsmFault::Source(SourceFault::Range(number)));
     }
     let end = u64::from(at) + statement.size();

@@ -3,6 +3,7 @@
 #![tactic(auto)]
 
 mod assembler;
+mod cause;
 mod characters;
 mod fault;
 mod faults;
@@ -18,6 +19,7 @@ mod second_pass;
 mod source;
 
 pub use assembler::assemble;
+pub use cause::Cause;
 pub use characters::{
     is_blank, is_digit, is_letter, is_name, split_at_first, trimmed, until, without_back_blanks,
     without_front_blanks,
@@ -26,9 +28,9 @@ pub use fault::{AsmFault, SourceFault};
 pub use faults::{Assembled, all_faults, assemble_or_faults};
 pub use form::{Form, Operand, Place, form_named};
 pub use image::Image;
-pub use instruction::{Instruction, Target, before_close, has_comma, instruction_of};
+pub use instruction::{Instruction, Target, before_close, has_comma};
 pub use layout::ORIGIN;
-pub use line::{instruction_named, is_reserved_word};
-pub use number::{Number, number_of};
-pub use register::{register_of, system_register_of};
+pub use line::{Line, Statement, line_of, split_word, statement_named};
+pub use number::{Bounds, Number, number_of};
+pub use register::register_of;
 pub use source::{SourceLine, first_line, source_line};

@@ -3,14 +3,15 @@ ghost use Rattle.std.specs.Prelude.{◌≡◌, ◌≤◌, option_map, length};
 ghost use Rattle.std.specs.List.{position_or_len};
 ghost use Rattle.ds_asm.specs.Characters.{is_blank};
 ghost use Rattle.ds_asm.specs.Numbers.{number_of};
-ghost use Rattle.ds_asm.specs.Lines.{mnemonic_of, after_mnemonic, number_word, instruction_named, statement_named, statement_of, statement_in, with_statement, line_parts, line_of};
-ghost use Rattle.ds_asm.specs.Assembly.{is_reserved_word, is_in_range, is_aligned, size_of};
+ghost use Rattle.ds_asm.specs.Lines.{mnemonic_of, after_word, number_word, instruction_named, statement_named, statement_of, statement_in, with_statement, line_parts, line_of};
+ghost use Rattle.ds_asm.specs.Assembly.{bounds_in, cause_at, cause_by, is_reserved_word, is_in_range, is_aligned, size_of};
 ghost use Rattle.ds_asm.specs.Plain.{plain_instruction, plain_statement, plain_line};
 
+use crate::cause::Cause;
 use crate::characters::{is_blank, is_name, split_at_first, trimmed, until, without_front_blanks};
 use crate::form::form_named;
-use crate::instruction::{Instruction, instruction_of};
-use crate::number::{Number, number_of};
+use crate::instruction::Instruction;
+use crate::number::{Bounds, Number, number_of};
 use ds_isa::{Instr, decode};
 
 /// The most bytes that an image has.
@@ -18,14 +19,14 @@ pub(crate) const MOST_BYTES: u64 = 65_536;
 
 /// What a line says.
 #[derive(Clone, Copy)]
-pub(crate) struct Line<'a> {
-    pub(crate) label: Option<&'a [u8]>,
-    pub(crate) statement: Option<Statement<'a>>,
+pub struct Line<'a> {
+    pub label: Option<&'a [u8]>,
+    pub statement: Option<Statement<'a>>,
 }
 
 /// What becomes bytes.
 #[derive(Clone, Copy)]
-pub(crate) enum Statement<'a> {
+pub enum Statement<'a> {
     Instruction(Instruction<'a>),
     Word(Number),
     /// A word with the address of a label.
@@ -36,12 +37,35 @@ pub(crate) enum Statement<'a> {
 }
 
 impl<'a> Statement<'a> {
-    /// Whether its numbers and registers are in range.
-    pub(crate) fn is_in_range(&self) -> bool
+    /// Why it may not stand at a place of the image, if it may not.
+    pub fn cause_at(&self, at: u64) -> Option<Cause>
+        ensures { result ≡ cause_at at (plain_statement self.now) }
+    {
+        if self.is_in_range() && self.is_aligned(at) {
+            None
+        } else {
+            Some(cause_by(at, self.bounds()))
+        }
+    }
+
+    /// The bounds of its first number that is out of range.
+    fn bounds(&self) -> Option<Bounds>
+        ensures { result ≡ bounds_in (plain_statement self.now) }
+    {
+        match self {
+            Statement::Instruction(instruction) => instruction.out_of_range,
+            Statement::Word(number) => number.out_of_range(0x8000_0000, 0xFFFF_FFFF),
+            Statement::WordOf(_) => None,
+            Statement::Byte(number) => number.out_of_range(128, 255),
+            Statement::Space(number) => number.out_of_range(0, 65_536),
+        }
+    }
+
+    fn is_in_range(&self) -> bool
         ensures { result ≡ is_in_range (plain_statement self.now) }
     {
         match self {
-            Statement::Instruction(i) => i.in_range && !is_reserved_word(i.word),
+            Statement::Instruction(i) => i.out_of_range.is_none() && !is_reserved_word(i.word),
             Statement::Word(number) => number.is_within(0x8000_0000, 0xFFFF_FFFF),
             Statement::WordOf(_) => true,
             Statement::Byte(number) => number.is_within(128, 255),
@@ -49,8 +73,8 @@ impl<'a> Statement<'a> {
         }
     }
 
-    /// Whether it may stand at a place of the image: words stand at multiples of four.
-    pub(crate) fn is_aligned(&self, at: u32) -> bool
+    /// Words stand at multiples of four.
+    fn is_aligned(&self, at: u64) -> bool
         ensures { result ≡ is_aligned at (plain_statement self.now) }
     {
         match self {
@@ -71,9 +95,21 @@ impl<'a> Statement<'a> {
     }
 }
 
+/// Why a statement is refused at a place, by the bounds of its number that is out of range, where
+/// it has one.
+fn cause_by(at: u64, bounds: Option<Bounds>) -> Cause
+    ensures { result ≡ cause_by at bounds }
+{
+    match bounds {
+        Some(bounds) => Cause::OutOfRange(bounds),
+        None if at % 4 == 0 => Cause::Reserved,
+        None => Cause::NotAligned,
+    }
+}
+
 /// Whether a word is no instruction.
 #[tactic(auto, unfolding(crate::specs::Assembly::is_reserved_word))]
-pub fn is_reserved_word(word: u32) -> bool
+fn is_reserved_word(word: u32) -> bool
     ensures { result ≡ is_reserved_word word }
 {
     matches!(decode(word), Instr::Reserved(_))
@@ -82,7 +118,7 @@ pub fn is_reserved_word(word: u32) -> bool
 /// What a line says, up to its comment.
 #[inline(always)]
 #[tactic(auto, unfolding(crate::specs::Lines::line_of))]
-pub(crate) fn line_of(line: &[u8]) -> Option<Line<'_>>
+pub fn line_of(line: &[u8]) -> Option<Line<'_>>
     ensures { option_map plain_line result ≡ line_of line.now }
 {
     let said = trimmed(until(b'#', line));
@@ -131,22 +167,21 @@ fn with_statement<'a>(label: Option<&'a [u8]>, text: &'a [u8]) -> Option<Line<'a
 fn statement_of(text: &[u8]) -> Option<Statement<'_>>
     ensures { option_map plain_statement result ≡ statement_of text.now }
 {
-    let (name, left) = split_mnemonic(text);
+    let (name, after) = split_word(text);
+    let left = if after.is_empty() { None } else { Some(after) };
     statement_named(name, left)
 }
 
-/// The mnemonic of a statement, and what stands after it, if anything does.
-fn split_mnemonic(text: &[u8]) -> (&[u8], Option<&[u8]>)
-    ensures name { result.0.now ≡ mnemonic_of text.now }
-    ensures left { option_map (λ t. t.now) result.1 ≡ after_mnemonic text.now }
+/// The first word of a text, and what stands after it and its blanks.
+pub fn split_word(text: &[u8]) -> (&[u8], &[u8])
+    ensures word { result.0.now ≡ mnemonic_of text.now }
+    ensures after { result.1.now ≡ after_word text.now }
 {
-    let end = mnemonic_len(text);
-    let after = without_front_blanks(&text[end..]);
-    let left = if after.is_empty() { None } else { Some(after) };
-    (&text[..end], left)
+    let end = word_len(text);
+    (&text[..end], without_front_blanks(&text[end..]))
 }
 
-fn mnemonic_len(text: &[u8]) -> usize
+fn word_len(text: &[u8]) -> usize
     ensures exact { result ≡ position_or_len is_blank text.now }
     ensures within { result ≤ length text.now }
 {
@@ -155,7 +190,7 @@ fn mnemonic_len(text: &[u8]) -> usize
 
 /// The statement of a mnemonic and of what stands after it.
 #[tactic(auto, unfolding(crate::specs::Lines::statement_named))]
-fn statement_named<'a>(name: &[u8], left: Option<&'a [u8]>) -> Option<Statement<'a>>
+pub fn statement_named<'a>(name: &[u8], left: Option<&'a [u8]>) -> Option<Statement<'a>>
     ensures { option_map plain_statement result
         ≡ statement_named name.now (option_map (λ t. t.now) left.entry) }
 {
@@ -186,10 +221,10 @@ fn word_statement(text: &[u8]) -> Option<Statement<'_>>
 }
 
 /// The instruction of a mnemonic and of what stands after it.
-pub fn instruction_named<'a>(name: &[u8], left: Option<&'a [u8]>) -> Option<Instruction<'a>>
+fn instruction_named<'a>(name: &[u8], left: Option<&'a [u8]>) -> Option<Instruction<'a>>
     ensures { option_map plain_instruction result
         ≡ instruction_named name.now (option_map (λ t. t.now) left.entry) }
 {
     let form = form_named(name)?;
-    instruction_of(form.word, form.operands, left)
+    Instruction::bare(form.word).with_operands(form.operands, left)
 }

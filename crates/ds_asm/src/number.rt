@@ -1,6 +1,6 @@
 //! Numbers of a source.
 ghost use Rattle.std.specs.Prelude.{◌≡◌};
-ghost use Rattle.ds_asm.specs.Numbers.{decimal_of, hexadecimal_of, unsigned_of, number_of, is_within, as_word};
+ghost use Rattle.ds_asm.specs.Numbers.{decimal_of, hexadecimal_of, unsigned_of, number_of, is_within, out_of_range, as_word};
 
 use ds_word::number_of_digits;
 
@@ -9,6 +9,15 @@ use ds_word::number_of_digits;
 pub struct Number {
     pub negative: bool,
     pub magnitude: u64,
+}
+
+/// From where to where a number may be.
+#[derive(Clone, Copy, Debug, PartialEq, Eq)]
+pub struct Bounds {
+    /// How far below 0 it may be.
+    pub least: u32,
+    /// The greatest that it may be.
+    pub most: u32,
 }
 
 /// The most that ten decimal digits say.
@@ -76,6 +85,17 @@ impl Number {
             self.magnitude <= least
         } else {
             self.magnitude <= most
+        }
+    }
+
+    /// The bounds, unless it is from `-least` to `most`.
+    pub fn out_of_range(&self, least: u32, most: u32) -> Option<Bounds>
+        ensures { result ≡ out_of_range least most self.now }
+    {
+        if self.is_within(u64::from(least), u64::from(most)) {
+            None
+        } else {
+            Some(Bounds { least, most })
         }
     }
 

@@ -26,7 +26,7 @@ pub fn register_of(text: &[u8]) -> Option<u32>
 }
 
 /// The number of a register of the system coprocessor: `$` and a number from 0 to 31.
-pub fn system_register_of(text: &[u8]) -> Option<u32>
+pub(crate) fn system_register_of(text: &[u8]) -> Option<u32>
     ensures exact { result ≡ system_register_of text.now }
     ensures below { IfSome result (λ n. n < 32) }
 {

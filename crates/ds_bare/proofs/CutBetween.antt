@@ -4,7 +4,7 @@ use Rattle.std.specs.Prelude.{Option, Some, None, Result, Err, IfErr}
 use Rattle.std.specs.Io.KnownBytes.{Appends, Keeps}
 use Rattle.ds_log.specs.Sent.{Answers, IsAskedOnce}
 use Rattle.ds_log.proofs.Sends.{appends_both, appends_kept, appends_none}
-use Rattle.ds_bare_view.specs.declared.view.BareView.{BareView}
+use Rattle.ds_words.specs.declared.bare_view.BareView.{BareView}
 use Rattle.ds_bare.specs.declared.ending.Ending.{Ending}
 use Rattle.ds_bare.specs.declared.fault.BareFault.{BareFault}
 use Rattle.ds_bare.specs.declared.fault.BareFault.TheVariants as fault

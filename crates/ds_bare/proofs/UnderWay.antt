@@ -4,7 +4,7 @@ use Rattle.std.specs.Prelude.{Option, Some, None}
 use Rattle.std.specs.Io.KnownBytes.{Appends}
 use Rattle.ds_log.specs.Sent.{AppendsPart}
 use Rattle.ds_log.proofs.Sends.{appends_none, appends_both, part_behind, part_before}
-use Rattle.ds_bare_view.specs.declared.view.BareView.{BareView}
+use Rattle.ds_words.specs.declared.bare_view.BareView.{BareView}
 use Rattle.ds_bare.specs.declared.ending.Ending.{Ending}
 use Rattle.ds_bare.specs.declared.ending.Ending.TheVariants.{Counted}
 use Rattle.ds_bare.specs.Machine.{Machine}

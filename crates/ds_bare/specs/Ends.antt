@@ -3,7 +3,7 @@ use Rattle.std.specs.Prelude.{codes, decimal, ℕ, ◌+◌, ◌*◌, ◌/◌, �
 use Rattle.std.specs.List.{flat_map}
 use Rattle.ds_word.specs.Word.{bits}
 use Rattle.ds_listing.specs.declared.names.RegisterNames.{RegisterNames}
-use Rattle.ds_listing.specs.Texts.{hex2, hex8}
+use Rattle.ds_text.specs.Digits.{hex2, hex8}
 use Rattle.ds_tlb.specs.declared.entry.Entry.{Entry}
 use Rattle.ds_tlb.specs.Singles.{match_each_other}
 use Rattle.ds_tlb.specs.Words.{entry_of}
@@ -12,7 +12,7 @@ use Rattle.ds_dev.specs.Bus.{BusState}
 use Rattle.ds_core.specs.Core.{CoreState}
 use Rattle.ds_bare.specs.declared.ending.Ending.{Ending}
 use Rattle.ds_bare.specs.declared.ending.Ending.TheVariants.{Counted, Finished, AtGeneralVector, NoHandler}
-use Rattle.ds_bare_view.specs.declared.view.BareView.{BareView}
+use Rattle.ds_words.specs.declared.bare_view.BareView.{BareView}
 use Rattle.ds_bare.specs.Machine.{Machine}
 use Rattle.ds_bare.specs.Looks.{looks_text}
 use Rattle.ds_bare.specs.Steps.{name_of, seen, others, flags_text, entry_text, code_text}

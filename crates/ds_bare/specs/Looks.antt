@@ -3,11 +3,11 @@ use Rattle.std.specs.Prelude.{codes, decimal, ℕ, zero, suc, ◌+◌, ◌%◌, 
 use Rattle.std.specs.List.{flat_map}
 use Rattle.ds_word.specs.Bytes.{word_at}
 use Rattle.ds_word.specs.Word.{word}
-use Rattle.ds_listing.specs.Texts.{hex8}
+use Rattle.ds_text.specs.Digits.{hex8}
 use Rattle.ds_dev.specs.Bus.{BusState, is_memory}
-use Rattle.ds_bare_view.specs.declared.spans.Span.{Span}
-use Rattle.ds_bare_view.specs.declared.view.BareView.{BareView}
-use Rattle.ds_bare_view.specs.Spans.{spans_in}
+use Rattle.ds_words.specs.declared.spans.Span.{Span}
+use Rattle.ds_words.specs.declared.bare_view.BareView.{BareView}
+use Rattle.ds_words.specs.Spans.{spans_in}
 use Rattle.ds_bare.specs.declared.counts.Counts.{Counts}
 use Rattle.ds_bare.specs.Machine.{Machine}
 use Rattle.ds_bare.specs.Steps.{code_text}

@@ -2,8 +2,8 @@
 use Rattle.std.specs.Prelude.{◌≡◌, ◌≢◌, ◌≤◌, ℕ, zero, suc, ◌+◌, if◌then◌else◌, List, [], ◌++◌, Option, Some, None}
 use Rattle.std.specs.Io.KnownBytes.{Appends}
 use Rattle.ds_policy.specs.declared.command.Character.{Character}
-use Rattle.ds_bare_view.specs.declared.view.BareView.{BareView}
-use Rattle.ds_bare_view.specs.Views.{reaches}
+use Rattle.ds_words.specs.declared.bare_view.BareView.{BareView}
+use Rattle.ds_words.specs.BareViews.{reaches}
 use Rattle.ds_bare.specs.declared.ending.Ending.{Ending}
 use Rattle.ds_bare.specs.declared.ending.Ending.TheVariants.{Counted}
 use Rattle.ds_bare.specs.Machine.{Machine, counted, machine_at_start, fed, next_step, stepped, settled}

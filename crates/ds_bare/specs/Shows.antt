@@ -6,9 +6,9 @@ use Rattle.ds_dev.specs.Bus.{BusState}
 use Rattle.ds_core.specs.declared.event.Event.{Event}
 use Rattle.ds_core.specs.declared.event.Event.TheVariants.{Retired, Branched, Raised}
 use Rattle.ds_core.specs.Core.{CoreState}
-use Rattle.ds_bare_view.specs.declared.view.BareOnly.{BareOnly}
-use Rattle.ds_bare_view.specs.declared.view.BareOnly.TheVariants.{End, Exceptions, Tlb, Devices}
-use Rattle.ds_bare_view.specs.declared.view.BareView.{BareView}
+use Rattle.ds_words.specs.declared.bare_view.BareOnly.{BareOnly}
+use Rattle.ds_words.specs.declared.bare_view.BareOnly.TheVariants.{End, Exceptions, Tlb, Devices}
+use Rattle.ds_words.specs.declared.bare_view.BareView.{BareView}
 use Rattle.ds_bare.specs.declared.before.Before.{Before}
 use Rattle.ds_bare.specs.Begun.{begun_text}
 use Rattle.ds_bare.specs.Steps.{line_text, others}

@@ -10,7 +10,7 @@ use Rattle.ds_isa.specs.Registers.{Registers, read}
 use Rattle.ds_isa.specs.Meaning.{address_of}
 use Rattle.ds_listing.specs.declared.names.RegisterNames.{RegisterNames}
 use Rattle.ds_listing.specs.NamedTexts.{register_as, text_as}
-use Rattle.ds_listing.specs.Texts.{hex8}
+use Rattle.ds_text.specs.Digits.{hex8}
 use Rattle.ds_tlb.specs.declared.entry.Entry.{Entry}
 use Rattle.ds_cp0.specs.Codes.{number_of}
 use Rattle.ds_cp0.specs.System.{asid_of}

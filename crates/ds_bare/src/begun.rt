@@ -3,9 +3,9 @@ ghost use Rattle.std.specs.Prelude.{◌≡◌, ◌≤◌, ◌++◌, OnOk, length
 ghost use Rattle.std.specs.String.{string_bytes};
 ghost use Rattle.ds_bare.specs.Begun.{begins, begun_line, begun_lines, begun_text, begun_with, ordered_text, pair_text};
 
-use crate::digits::push_decimal;
 use crate::ending::Processor;
 use crate::matches::{entries_of, match_each_other};
+use ds_text::string::push_decimal;
 use ds_tlb::{Entry, Lookaside};
 use std::alloc::{AllocError, Global};
 

@@ -4,7 +4,6 @@ ghost use Rattle.std.specs.List.{flat_map};
 ghost use Rattle.std.specs.String.{string_bytes};
 ghost use Rattle.ds_bare.specs.Ends.{bit_text, cause_text, character_text, core_text, end_text, fields_text, headline, lines_text, random_text, reason_text, register_text, registers_text, sent_text, with_cause};
 
-use crate::digits::{push_byte, push_decimal, push_hex};
 use crate::ending::{Ending, Processor};
 use crate::entries::push_flags;
 use crate::looks::push_looks;
@@ -12,11 +11,12 @@ use crate::machine::Machine;
 use crate::matches::{entries_of, push_entries, push_matches};
 use crate::names::{push_code, push_name};
 use crate::registers::{others, seen};
-use ds_bare_view::BareView;
 use ds_cp0::{Cp0, register};
 use ds_dev::Bus;
 use ds_listing::RegisterNames;
+use ds_text::string::{push_byte, push_decimal, push_hex};
 use ds_tlb::{Entry, Lookaside};
+use ds_words::BareView;
 use std::alloc::{AllocError, Global};
 
 /// Adds the text of the end, after so many instructions.

@@ -3,7 +3,7 @@ ghost use Rattle.std.specs.Prelude.{◌≡◌, ◌++◌, OnOk, Some};
 ghost use Rattle.std.specs.String.{string_bytes};
 ghost use Rattle.ds_bare.specs.Steps.{entry_text, flag_text, flags_text, slot_entry_text};
 
-use crate::digits::{push_decimal, push_hex};
+use ds_text::string::{push_decimal, push_hex};
 use ds_tlb::Entry;
 use std::alloc::AllocError;
 

@@ -5,7 +5,6 @@
 mod before;
 mod begun;
 mod counts;
-mod digits;
 mod end;
 mod ending;
 mod entries;
@@ -20,7 +19,6 @@ mod run;
 mod shows;
 mod step;
 
-pub use ds_bare_view::{BareOnly, BareView, Span, Spans};
 pub use ds_policy::Character;
 pub use ending::Ending;
 pub use fault::BareFault;

@@ -5,13 +5,13 @@ ghost use Rattle.std.specs.String.{string_bytes};
 ghost use Rattle.ds_bare.specs.Looks.{back_of_words, count_text, counts_text, devices_counted, exception_text, exceptions_text, front_of_words, looks_text, piece_text, pieces_text, span_text, steps_counted, word_text};
 
 use crate::counts::Counts;
-use crate::digits::{push_decimal, push_hex};
 use crate::machine::Machine;
 use crate::names::push_code;
-use ds_bare_view::{BareView, Span};
 use ds_dev::Bus;
 use ds_mem::SIZE;
+use ds_text::string::{push_decimal, push_hex};
 use ds_word::wrapping_sum;
+use ds_words::{BareView, Span};
 use std::alloc::AllocError;
 
 /// Adds a count with its name.

@@ -4,9 +4,9 @@ ghost use Rattle.std.specs.String.{string_bytes};
 ghost use Rattle.ds_tlb.specs.Singles.{match_each_other};
 ghost use Rattle.ds_bare.specs.Ends.{entries_text, match_text, matches_text, valid_text};
 
-use crate::digits::push_decimal;
 use crate::ending::Processor;
 use crate::entries::push_entry;
+use ds_text::string::push_decimal;
 use ds_tlb::{Entry, Lookaside};
 use std::alloc::{AllocError, Global};
 

@@ -3,8 +3,8 @@ ghost use Rattle.std.specs.Prelude.{◌≡◌, ◌<◌, ◌++◌, OnOk};
 ghost use Rattle.std.specs.String.{string_bytes};
 ghost use Rattle.ds_bare.specs.Steps.{code_name, code_text, name_of};
 
-use crate::digits::push_decimal;
 use ds_listing::{RegisterNames, push_register};
+use ds_text::string::push_decimal;
 use std::alloc::AllocError;
 
 /// Adds the name of a register: 0 to 31 are the general ones, by their numbers or their common names,

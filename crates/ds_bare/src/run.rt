@@ -20,9 +20,9 @@ use crate::machine::{Machine, core_at_start};
 use crate::registers::others;
 use crate::shows::push_lines_shown;
 use ds_asm::Image;
-use ds_bare_view::BareView;
 use ds_log::{Output, send};
 use ds_policy::Character;
+use ds_words::BareView;
 use std::alloc::Global;
 
 /// Runs an image on the bare machine, from its first word on in kernel mode, for at most so many

@@ -8,9 +8,9 @@ use crate::begun::push_begun;
 use crate::ending::Processor;
 use crate::registers::others;
 use crate::step::push_line;
-use ds_bare_view::{BareOnly, BareView};
 use ds_core::Event;
 use ds_dev::Bus;
+use ds_words::{BareOnly, BareView};
 use std::alloc::{AllocError, Global};
 
 /// Where Cause stands among the registers but the general ones.

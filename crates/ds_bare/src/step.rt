@@ -4,7 +4,6 @@ ghost use Rattle.std.specs.String.{string_bytes};
 ghost use Rattle.ds_bare.specs.Steps.{change_text, changes_text, done_text, event_text, front_text, instruction_text, late_text, line_text, raised_text, registers_text, slot_text, stored_text, word_stored, written_text};
 
 use crate::before::{Before, Stored};
-use crate::digits::{push_decimal, push_hex};
 use crate::ending::Processor;
 use crate::entries::push_slot;
 use crate::names::{push_code, push_name};
@@ -14,6 +13,7 @@ use ds_dev::Bus;
 use ds_isa::Late;
 use ds_listing::{RegisterNames, push_word_as};
 use ds_mem::SIZE;
+use ds_text::string::{push_decimal, push_hex};
 use ds_tlb::Lookaside;
 use std::alloc::AllocError;
 

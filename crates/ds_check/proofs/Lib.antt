@@ -7,3 +7,4 @@ pub mod LineSteps
 pub mod ItemSteps
 pub mod SpotSteps
 pub mod StartSteps
+pub mod CodeLines

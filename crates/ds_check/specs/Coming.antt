@@ -5,12 +5,10 @@ use Rattle.ds_policy.specs.declared.command.Command.{Command}
 use Rattle.ds_policy.specs.declared.command.Command.TheVariants.{Grant, Narrow, Revoke, Drop, Resume, Stop}
 use Rattle.ds_policy.specs.declared.command.TimedCommand.{TimedCommand}
 use Rattle.ds_policy.specs.declared.command.Character.{Character}
-use Rattle.ds_policy.specs.declared.grant.Right.{Right}
-use Rattle.ds_policy.specs.declared.grant.Right.TheVariants.{Nothing, Read, Write}
+use Rattle.ds_policy.specs.Words.{command_words, right_word}
 use Rattle.ds_policy.specs.declared.policy.PolicyPage.{PolicyPage}
 use Rattle.ds_policy.specs.Value.{PolicyValue, InputValue}
-use Rattle.ds_listing.specs.Texts.{hex8}
-use Rattle.ds_listing.specs.Texts.{hex2}
+use Rattle.ds_text.specs.Digits.{hex2, hex8}
 use Rattle.ds_check.specs.declared.due.RuleEnd.{RuleEnd}
 use Rattle.ds_check.specs.declared.due.Due.{Due}
 use Rattle.ds_check.specs.declared.due.Due.TheVariants as due
@@ -21,30 +19,24 @@ abbrev pub name_text : Option PolicyPage → List ℕ
 name_text None = []
 name_text (Some p) = p.name
 
--- the right that a command gives
-abbrev pub given_text : Right → List ℕ
-given_text Nothing = codes " none"
-given_text Read = codes " read"
-given_text Write = codes " write"
-
 -- whether the process may give it on
 abbrev pub may_give_text : Bool → List ℕ
 may_give_text true = codes " give"
 may_give_text false = []
 
--- a verb, a process and an address
-abbrev pub entry_words : List ℕ → ℕ → ℕ → List ℕ
-entry_words verb process address = verb ++ decimal process ++ codes " " ++ hex8 address
+-- what is granted by a command that grants, where these are the policy's pages
+abbrev pub granted_words : List PolicyPage → Command → List ℕ
+granted_words pages (Grant process address page right give) =
+    codes " " ++ name_text (slice_get pages page) ++ codes " " ++ right_word right ++ may_give_text give
+granted_words pages (Narrow process address) = []
+granted_words pages (Revoke process address) = []
+granted_words pages (Drop process address) = []
+granted_words pages (Resume process) = []
+granted_words pages (Stop process) = []
 
--- a command in the words of an input, where these are the policy's pages
+-- a command in the words of an input
 abbrev pub words_text : List PolicyPage → Command → List ℕ
-words_text pages (Grant process address page right give) =
-    entry_words (codes "grant ") process address ++ codes " " ++ name_text (slice_get pages page) ++ given_text right ++ may_give_text give
-words_text pages (Narrow process address) = entry_words (codes "narrow ") process address
-words_text pages (Revoke process address) = entry_words (codes "revoke ") process address
-words_text pages (Drop process address) = entry_words (codes "drop ") process address
-words_text pages (Resume process) = codes "resume " ++ decimal process
-words_text pages (Stop process) = codes "stop " ++ decimal process
+words_text pages c = command_words c ++ granted_words pages c
 
 -- the line of a command: its time, its number, the rule that the log names for it, and its words
 abbrev pub command_text : List PolicyPage → TimedCommand → List ℕ

@@ -8,7 +8,7 @@ use Rattle.ds_policy.specs.declared.command.Character.{Character}
 use Rattle.ds_policy.specs.declared.grant.Right.TheVariants.{Read, Write}
 use Rattle.ds_policy.specs.declared.policy.PolicyPage.{PolicyPage}
 use Rattle.ds_policy.specs.Value.{PolicyValue}
-use Rattle.ds_listing.specs.Texts.{hex4, hex8}
+use Rattle.ds_text.specs.Digits.{hex4, hex8}
 use Rattle.ds_check.specs.Coming.{events_text}
 
 -- the pages `code` and `data`

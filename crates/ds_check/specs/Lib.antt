@@ -20,3 +20,10 @@ pub mod Starts
 pub mod StartRows
 pub mod Carets
 pub mod CaretRows
+pub mod CodeNotes
+pub mod CodeNoteRows
+pub mod PolicyNotes
+pub mod PolicyNoteRows
+pub mod InputNotes
+pub mod InputNoteRows
+pub mod NoteTexts

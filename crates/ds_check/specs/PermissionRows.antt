@@ -5,7 +5,7 @@ use Rattle.ds_policy.specs.declared.grant.Right.{Right}
 use Rattle.ds_policy.specs.declared.grant.Right.TheVariants.{Nothing, Read, Write}
 use Rattle.ds_policy.specs.declared.policy.PolicyRule.{PolicyRule}
 use Rattle.ds_policy.specs.Value.{PolicyValue}
-use Rattle.ds_listing.specs.Texts.{hex4, hex8}
+use Rattle.ds_text.specs.Digits.{hex4, hex8}
 use Rattle.ds_check.specs.Permissions.{table_text}
 
 abbrev rule : ℕ → ℕ → Right → Option ℕ → Bool → Option ℕ → PolicyRule

@@ -9,7 +9,7 @@ use Rattle.ds_policy.specs.declared.policy.Source.{Source}
 use Rattle.ds_policy.specs.Pages.{Table}
 use Rattle.ds_policy.specs.FirstTable.{table_of}
 use Rattle.ds_policy.specs.Value.{PolicyValue}
-use Rattle.ds_listing.specs.Texts.{hex8}
+use Rattle.ds_text.specs.Digits.{hex8}
 
 -- a right, in a column
 abbrev pub right_text : Right → List ℕ

@@ -6,7 +6,7 @@ use Rattle.ds_policy.specs.declared.grant.Right.TheVariants.{Read}
 use Rattle.ds_policy.specs.declared.policy.PolicyProcess.{PolicyProcess}
 use Rattle.ds_policy.specs.declared.policy.PolicyRule.{PolicyRule}
 use Rattle.ds_policy.specs.Value.{PolicyValue}
-use Rattle.ds_listing.specs.Texts.{hex4, hex8}
+use Rattle.ds_text.specs.Digits.{hex4, hex8}
 use Rattle.ds_check.specs.Starts.{Assembled, starts_text}
 
 -- a source of two lines, of which the second has a label, over an image of eight bytes

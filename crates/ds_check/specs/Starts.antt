@@ -1,7 +1,7 @@
 -- Where the processes of a policy start, as a reader is told it.
 use Rattle.std.specs.Prelude.{codes, decimal, ℕ, ◌+◌, ◌*◌, ◌%◌, bytes_eq, List, [], ◌∷◌, ◌++◌, length, position, slice_get, Option, None, Some, map, option_and_then, option_map}
 use Rattle.ds_listing.specs.Listing.{rows_of}
-use Rattle.ds_listing.specs.Texts.{hex8}
+use Rattle.ds_text.specs.Digits.{hex8}
 use Rattle.ds_policy.specs.declared.grant.Grant.{Grant}
 use Rattle.ds_policy.specs.declared.policy.PolicyPage.{PolicyPage}
 use Rattle.ds_policy.specs.declared.policy.PolicyProcess.{PolicyProcess}

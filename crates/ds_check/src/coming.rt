@@ -1,13 +1,13 @@
 //! What comes during a run, as text: ends of rights and commands, and characters between them.
 ghost use Rattle.std.specs.Prelude.{◌≡◌, ◌≤◌, ◌++◌, OnOk, IfOk, None, length, take, drop};
 ghost use Rattle.std.specs.List.{flat_map};
-ghost use Rattle.ds_listing.specs.Texts.{hex2};
+ghost use Rattle.ds_text.specs.Digits.{hex2};
 ghost use Rattle.ds_check.specs.Coming.{command_text, comes_with, count_due, due_text, end_text, events_from, events_text, key_text, loss_text, name_text, page_at, rule_end_text, step_count, step_text};
 
 use crate::due::{Due, RuleEnd, due_of};
-use crate::sheet::{push_byte, push_decimal, push_hex};
 use crate::words::{push_name, push_words};
 use ds_policy::{Character, Events, OutOfMemory, Policy, PolicyPage, TimedCommand};
+use ds_text::sheet::{push_byte, push_decimal, push_hex};
 use std::alloc::{AllocError, Global};
 
 /// What comes where a policy is run with an input, in order: a line for each end of a right, for each

@@ -4,9 +4,9 @@ ghost use Rattle.ds_policy.specs.Grants.{count_distinct};
 ghost use Rattle.ds_policy.specs.PolicyParts.{regions_of};
 ghost use Rattle.ds_check.specs.Limits.{limits_text, of_all, of_processes, of_process, limit_text, entries_in, near_text};
 
-use crate::counts::{count_entries, count_events, count_regions};
-use crate::sheet::push_decimal;
-use ds_policy::{OutOfMemory, Policy, PolicyRule};
+use crate::counts::{count_entries, count_events};
+use ds_policy::{OutOfMemory, Policy, PolicyRule, count_regions};
+use ds_text::sheet::push_decimal;
 use std::alloc::{AllocError, Global};
 
 /// How many processes, rules, pages, frames and events a policy and an input have, and how many entries

@@ -3,8 +3,8 @@ ghost use Rattle.std.specs.Prelude.{◌≡◌, ◌≤◌, ◌<◌, ◌^◌, ◌+
 ghost use Rattle.std.specs.List.{flat_map};
 ghost use Rattle.ds_check.specs.Permissions.{table_text, processes_text, process_text, entry_text, granted_text, page_text, part_text, right_text, give_text, until_text};
 
-use crate::sheet::{push_decimal, push_hex};
 use ds_policy::{Entry, OutOfMemory, Policy, PolicyPage, Right, Source, Table};
+use ds_text::sheet::{push_decimal, push_hex};
 use std::alloc::{AllocError, Global};
 
 /// The permission table that a policy begins with, process by process: for each entry a line with its

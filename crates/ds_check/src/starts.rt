@@ -3,10 +3,10 @@ ghost use Rattle.std.specs.Prelude.{◌≡◌, ◌≤◌, ◌<◌, ◌^◌, ◌+
 ghost use Rattle.ds_check.specs.Spots.{seen};
 ghost use Rattle.ds_check.specs.Starts.{assembled, count_text, granted_source, head_text, label_text, part_text, place_text, spot_in, start_text, start_texts, starts_text};
 
-use crate::sheet::{push_decimal, push_hex};
 use crate::spots::{Spot, spot_of};
 use ds_asm::Image;
 use ds_policy::{Grant, OutOfMemory, Policy, PolicyPage, PolicyProcess, Source, Table};
+use ds_text::sheet::{push_decimal, push_hex};
 use std::alloc::{AllocError, Global};
 
 /// Sources by their names and texts, and the image of each, in the same order.

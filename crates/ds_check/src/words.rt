@@ -1,10 +1,11 @@
 //! The words of a command.
 ghost use Rattle.std.specs.Prelude.{◌≡◌, ◌++◌, OnOk};
 ghost use Rattle.std.specs.List.{slice_get};
-ghost use Rattle.ds_check.specs.Coming.{entry_words, given_text, may_give_text, name_text, words_text};
+ghost use Rattle.ds_policy.specs.Words.{after_blank};
+ghost use Rattle.ds_check.specs.Coming.{granted_words, may_give_text, name_text, words_text};
 
-use crate::sheet::{push_decimal, push_hex};
-use ds_policy::{Command, PolicyPage, Right};
+use ds_policy::{Command, PolicyPage};
+use ds_text::sheet::{push_decimal, push_hex};
 use std::alloc::AllocError;
 
 /// Adds a command in the words of an input.
@@ -15,47 +16,49 @@ pub(crate) fn push_words(
 ) -> Result<(), AllocError>
     ensures { OnOk result (sheet.new.items ≡ sheet.old.items ++ words_text pages.now command) }
 {
-    match command {
-        Command::Grant {
-            process,
-            address,
-            page,
-            right,
-            give,
-        } => {
-            push_entry(sheet, b"grant ", process, address)?;
+    sheet.extend_from_slice(command.verb().as_bytes())?;
+    sheet.extend_from_slice(b" ")?;
+    push_decimal(sheet, u64::from(command.process()))?;
+    push_address(sheet, command.address())?;
+    push_granted(sheet, pages, command)
+}
+
+/// Adds an address after a blank, where there is one.
+fn push_address(sheet: &mut Vec<u8>, address: Option<u32>) -> Result<(), AllocError>
+    ensures { OnOk result (sheet.new.items ≡ sheet.old.items ++ after_blank address) }
+{
+    match address {
+        Some(address) => {
             sheet.extend_from_slice(b" ")?;
-            push_name(sheet, pages, page)?;
-            sheet.extend_from_slice(given_word(right))?;
-            sheet.extend_from_slice(give_word(give))
+            push_hex(sheet, address)
         }
-        Command::Narrow { process, address } => push_entry(sheet, b"narrow ", process, address),
-        Command::Revoke { process, address } => push_entry(sheet, b"revoke ", process, address),
-        Command::Drop { process, address } => push_entry(sheet, b"drop ", process, address),
-        Command::Resume { process } => {
-            sheet.extend_from_slice(b"resume ")?;
-            push_decimal(sheet, u64::from(process))
-        }
-        Command::Stop { process } => {
-            sheet.extend_from_slice(b"stop ")?;
-            push_decimal(sheet, u64::from(process))
-        }
+        None => Ok(()),
     }
 }
 
-fn push_entry(
+/// Adds what is granted by a command that grants.
+fn push_granted(
     sheet: &mut Vec<u8>,
-    verb: &[u8],
-    process: u32,
-    address: u32,
+    pages: &[PolicyPage],
+    command: Command,
 ) -> Result<(), AllocError>
-    ensures { OnOk result
-        (sheet.new.items ≡ sheet.old.items ++ entry_words verb.now process address) }
+    ensures { OnOk result (sheet.new.items ≡ sheet.old.items ++ granted_words pages.now command) }
 {
-    sheet.extend_from_slice(verb)?;
-    push_decimal(sheet, u64::from(process))?;
-    sheet.extend_from_slice(b" ")?;
-    push_hex(sheet, address)
+    match command {
+        Command::Grant {
+            page,
+            right,
+            give,
+            ..
+        } => {
+            sheet.extend_from_slice(b" ")?;
+            push_name(sheet, pages, page)?;
+            sheet.extend_from_slice(b" ")?;
+            sheet.extend_from_slice(right.word().as_bytes())?;
+            sheet.extend_from_slice(give_word(give))
+        }
+        _ => Ok(()),
+    }
 }
 
 /// Adds the name of the page of this number, if there is one.
@@ -70,16 +73,6 @@ pub(crate) fn push_name(
     match pages.get(page as usize) {
         Some(page) => sheet.extend_from_slice(page.name.as_str().as_bytes()),
         None => Ok(()),
-    }
-}
-
-fn given_word(right: Right) -> &'static [u8]
-    ensures { result.now ≡ given_text right }
-{
-    match right {
-        Right::Nothing => b" none",
-        Right::Read => b" read",
-        Right::Write => b" write",
     }
 }
 

@@ -1,6 +1,6 @@
 -- What is told in words: how far a run has come, and how each process stands.
 use Rattle.std.specs.Prelude.{codes, decimal, ℕ, ◌+◌, ◌&&◌, Bool, nat_lt, is_some, if◌then◌else◌, List, ◌++◌}
-use Rattle.ds_listing.specs.Texts.{hex8}
+use Rattle.ds_text.specs.Digits.{hex8}
 use Rattle.ds_procs.specs.declared.process.Standing.{Standing}
 use Rattle.ds_procs.specs.declared.process.Standing.TheVariants.{Ready, Waiting, Parked, Ended}
 use Rattle.ds_pagemap.specs.Boundary.{is_first}

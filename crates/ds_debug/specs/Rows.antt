@@ -2,7 +2,7 @@
 use Rattle.std.specs.Prelude.{codes, ◌≡◌, true, false, [], ◌∷◌, Some, None, Ok, Err, refl}
 use Rattle.std.specs.Fmt.{digits}
 use Rattle.ds_isa.specs.Registers.{zero_registers}
-use Rattle.ds_listing.specs.Texts.{hex4, hex8}
+use Rattle.ds_text.specs.Digits.{hex4, hex8}
 use Rattle.ds_packets.specs.Framing.{hex_text}
 use Rattle.ds_packets.specs.Scanning.{start}
 use Rattle.ds_packets.specs.Scans.{Half}

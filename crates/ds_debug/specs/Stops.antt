@@ -1,6 +1,6 @@
 -- What gdb is told of a process that stands.
 use Rattle.std.specs.Prelude.{codes, ℕ, List, [], ◌++◌}
-use Rattle.ds_listing.specs.Texts.{hex8}
+use Rattle.ds_text.specs.Digits.{hex8}
 use Rattle.ds_packets.specs.Framing.{hex_pair}
 use Rattle.ds_debug.specs.Threads.{thread_text}
 use Rattle.ds_debug.specs.declared.stops.Reason.{Reason}

@@ -1,19 +1,12 @@
 -- The entries of the permission table as text.
 use Rattle.std.specs.Prelude.{codes, decimal, ℕ, ◌+◌, List, [], ◌++◌, flat_map, Option, Some, None}
-use Rattle.ds_listing.specs.Texts.{hex8}
+use Rattle.ds_text.specs.Digits.{hex8}
 use Rattle.ds_policy.specs.declared.grant.Entry.{Entry}
 use Rattle.ds_policy.specs.declared.grant.Grant.{Grant}
-use Rattle.ds_policy.specs.declared.grant.Right.{Right}
-use Rattle.ds_policy.specs.declared.grant.Right.TheVariants.{Nothing, Read, Write}
+use Rattle.ds_policy.specs.Words.{right_word}
 use Rattle.ds_policy.specs.Pages.{Table, entries_of}
 use Rattle.ds_debug.specs.Each.{each}
 use Rattle.ds_debug.specs.Sights.{Sight}
-
--- a right by its name
-abbrev pub right_text : Right → List ℕ
-right_text Nothing = codes "none"
-right_text Read = codes "read"
-right_text Write = codes "write"
 
 -- a page by its number, where there is one
 abbrev pub page_text : Option ℕ → List ℕ
@@ -22,7 +15,7 @@ page_text (Some n) = codes " page " ++ decimal n
 
 -- what was granted: what may be done, with which page, by which rule, and who gave it
 abbrev pub grant_words : Grant → List ℕ
-grant_words g = right_text g.right ++ page_text g.page ++ codes " r" ++ decimal g.rule ++ codes " by " ++ decimal g.giver
+grant_words g = right_word g.right ++ page_text g.page ++ codes " r" ++ decimal g.rule ++ codes " by " ++ decimal g.giver
 
 -- an entry of a process: where it is, and what was granted there
 abbrev pub entry_line : ℕ → Entry → List ℕ

@@ -3,7 +3,7 @@ ghost use Rattle.std.specs.Prelude.{◌≡◌, ◌<◌, ◌≤◌, ◌+◌, ◌+
 ghost use Rattle.ds_debug.specs.Each.{each};
 ghost use Rattle.ds_debug.specs.Description.{after_name, before_name, description_text, end_text, floating_text, group_text, head_text, left_text, lettered_line, part_text, processor_text, register_line, system_text, three_text};
 
-use crate::digits::push_decimal;
+use ds_text::sheet::push_decimal;
 use std::alloc::{AllocError, Global};
 
 /// Adds what stands before the name of a register.

@@ -3,9 +3,9 @@ ghost use Rattle.std.specs.Prelude.{◌≡◌, ◌<◌, ◌≤◌, ◌+◌, ◌+
 ghost use Rattle.ds_debug.specs.Reports.{is_going, is_runner, listed_process, process_line, processes_text, standing_text, thread_words, time_text};
 ghost use Rattle.ds_debug.specs.Sights.{sight_held};
 
-use crate::digits::{push_address, push_decimal};
 use ds_procs::Standing;
 use ds_station::Station;
+use ds_text::sheet::{push_decimal, push_hex};
 use ds_tlb::Lookaside;
 use std::alloc::AllocError;
 
@@ -46,7 +46,7 @@ fn push_line(
     text.extend_from_slice(b" ")?;
     text.extend_from_slice(standing_text(standing))?;
     text.extend_from_slice(b" ")?;
-    push_address(text, address)?;
+    push_hex(text, address)?;
     let end: &[u8] = if runs { b" runs\n" } else { b"\n" };
     text.extend_from_slice(end)
 }

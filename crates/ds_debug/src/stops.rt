@@ -2,9 +2,9 @@
 ghost use Rattle.std.specs.Prelude.{◌≡◌, ◌<◌, ◌++◌, OnOk, codes};
 ghost use Rattle.ds_debug.specs.Stops.{reason_text, signal_of, stop_text};
 
-use crate::digits::push_address;
 use crate::threads::push_thread;
 use ds_packets::push_hex;
+use ds_text::sheet;
 use std::alloc::AllocError;
 
 /// Why a process stands.
@@ -40,7 +40,7 @@ fn push_watch(text: &mut Vec<u8>, address: u32) -> Result<(), AllocError>
     ensures { OnOk result (text.new.items ≡ text.old.items ++ reason_text (Reason.Watch address)) }
 {
     text.extend_from_slice(b"watch:")?;
-    push_address(text, address)?;
+    sheet::push_hex(text, address)?;
     text.extend_from_slice(b";")
 }
 

@@ -2,24 +2,13 @@
 ghost use Rattle.std.specs.Prelude.{◌≡◌, ◌<◌, ◌+◌, ◌++◌, OnOk, flat_map, length};
 ghost use Rattle.ds_station.specs.Reads.{memory_held};
 ghost use Rattle.ds_debug.specs.Sights.{sight_held};
-ghost use Rattle.ds_debug.specs.Tables.{entries_text, entry_line, grant_words, page_text, right_text, table_text};
+ghost use Rattle.ds_debug.specs.Tables.{entries_text, entry_line, grant_words, page_text, table_text};
 
-use crate::digits::{push_address, push_decimal};
-use ds_policy::{Entry, Grant, Right};
+use ds_policy::{Entry, Grant};
 use ds_station::Station;
+use ds_text::sheet::{push_decimal, push_hex};
 use ds_tlb::Lookaside;
 use std::alloc::AllocError;
-
-/// A right by its name.
-fn right_text(right: Right) -> &'static [u8]
-    ensures { result.now ≡ right_text right }
-{
-    match right {
-        Right::Nothing => b"none",
-        Right::Read => b"read",
-        Right::Write => b"write",
-    }
-}
 
 /// Adds a page by its number, where there is one.
 fn push_page(text: &mut Vec<u8>, page: Option<u32>) -> Result<(), AllocError>
@@ -38,7 +27,7 @@ fn push_page(text: &mut Vec<u8>, page: Option<u32>) -> Result<(), AllocError>
 fn push_grant(text: &mut Vec<u8>, grant: Grant) -> Result<(), AllocError>
     ensures { OnOk result (text.new.items ≡ text.old.items ++ grant_words grant) }
 {
-    text.extend_from_slice(right_text(grant.right))?;
+    text.extend_from_slice(grant.right.word().as_bytes())?;
     push_page(text, grant.page)?;
     text.extend_from_slice(b" r")?;
     push_decimal(text, u64::from(grant.rule))?;
@@ -52,7 +41,7 @@ fn push_entry(text: &mut Vec<u8>, process: u32, entry: Entry) -> Result<(), Allo
 {
     push_decimal(text, u64::from(process))?;
     text.extend_from_slice(b" ")?;
-    push_address(text, entry.address)?;
+    push_hex(text, entry.address)?;
     text.extend_from_slice(b" ")?;
     push_grant(text, entry.grant)?;
     text.extend_from_slice(b"\n")

@@ -10,7 +10,7 @@ use Rattle.ds_policy.specs.declared.command.Character.{Character}
 use Rattle.ds_policy.specs.declared.events.fault.EventsFault.{EventsFault}
 use Rattle.ds_policy.specs.declared.events.fault.EventsFault.TheVariants as events
 use Rattle.ds_log.specs.Sent.{AppendsPart}
-use Rattle.ds_bare_view.specs.declared.view.BareView.{BareView}
+use Rattle.ds_words.specs.declared.bare_view.BareView.{BareView}
 use Rattle.ds_bare.specs.Faults.{is_cut, may_start}
 use Rattle.ds_bare.specs.Keys.{IsFaultOf, keys_in}
 use Rattle.ds_bare.specs.Machine.{machine_at_start}

@@ -1,6 +1,6 @@
 -- What is at fault where a check is refused.
 use Rattle.std.proofs.Common.{◌≡◌, ◌∙◌, ℕ, suc, zero, ◌<◌, List, [], ◌∷◌, Bool, true, false, Option, None, Some, Ok, refl, sym, ap, subst, length, get_or, arith}
-use Rattle.std.specs.Prelude.{bytes_eq, option_map, position, slice_index_or, is_ok, is_some, IfSome, not, Result}
+use Rattle.std.specs.Prelude.{bytes_eq, option_map, position, slice_index_or, is_some, IfSome, not}
 use Rattle.std.specs.List.{find}
 use Rattle.clap.proofs.RemoveLemmas.{find-none}
 use Rattle.ds_asm.specs.Faults.{all_faults}
@@ -8,15 +8,15 @@ use Rattle.std.proofs.lemmas.Bool.{true≢false}
 use Rattle.std.proofs.lemmas.List.Quantifiers.{position-Some}
 use Rattle.ds_asm.specs.declared.fault.SourceFault.{SourceFault}
 use Rattle.ds_policy.specs.Value.{PolicyValue}
-use Rattle.ds_policy.specs.Document.{document}
-use Rattle.ds_policy.specs.PolicyText.{policy_of, says}
-use Rattle.ds_policy.specs.Refusal.{PolicyRefusal, bad_toml, or_else}
-use Rattle.ds_word.specs.ResultBinding.{◌>>=◌}
+use Rattle.std.specs.Result.{result_err}
+use Rattle.ds_policy.specs.PolicyText.{read_policy, policy_of}
+use Rattle.ds_policy.specs.Refusal.{refusal_of}
 use Rattle.ds_policy.specs.declared.policy.PolicyPage.{PolicyPage}
-use Rattle.ds_policy_reasons.specs.Policies.{policy_reason, refusal_of, refused_by}
-use Rattle.ds_policy_reasons.specs.declared.input_cause.InputCause.{InputCause}
-use Rattle.ds_policy_reasons.specs.declared.reason.PolicyReason.{PolicyReason}
-use Rattle.ds_policy_reasons.proofs.PolicyLaws.{reason_refusal}
+use Rattle.ds_policy_reasons.specs.Reasons.{policy_reason}
+use Rattle.ds_policy.specs.declared.events.cause.InputCause.{InputCause}
+use Rattle.ds_policy.specs.declared.cause.PolicyReason.{PolicyReason}
+use Rattle.ds_policy.proofs.Binds.{told_ok}
+use Rattle.ds_policy.proofs.PolicyRead.{policy_document}
 use Rattle.ds_policy.specs.declared.fault.PolicyFault.{PolicyFault}
 use Rattle.ds_policy.specs.declared.fault.PolicyFault.TheVariants as policy_fault
 use Rattle.ds_pagemap.specs.Inputs.{Sources, text_named}
@@ -73,7 +73,8 @@ nothing_mapped f (Some x) is = absurd (true≢false (ap is_some is))
 
 -- a good policy has no reason
 no_reason : (policy : List ℕ) (value : PolicyValue) → policy_of policy ≡ Ok value → None ≡ policy_reason policy
-no_reason policy value read = sym (nothing_mapped refusal_of (policy_reason policy) (reason_refusal policy ∙ ap refused_by read))
+unfolding policy_of
+no_reason policy value read = sym (ap result_err (told_ok refusal_of (read_policy policy) value read))
 
 -- so none is told where the policy is good
 no_reason_at : (f : Fault) (policy : List ℕ) (value : PolicyValue) → policy_of policy ≡ Ok value → IsReasonAt f policy None
@@ -96,18 +97,9 @@ cause_told f pages input None cause at is so = tt
 cause_told (fault.InputFault line) pages input (Some i) cause at is so = is ∙ (so ∙ ap (cause_of pages) (sym at.0))
 cause_told f pages input (Some i) cause none is so = absurd none
 
-document_by : {A : Type 0} (o : Option A) (f : A → Result PolicyValue PolicyRefusal) (value : PolicyValue) → (or_else o bad_toml >>= f) ≡ Ok value → is_some o ≡ true
-document_by None f value is = absurd (true≢false (sym (ap is_ok is)))
-document_by (Some x) f value is = refl
-
--- a good policy is a document
-is_document : (policy : List ℕ) (value : PolicyValue) → policy_of policy ≡ Ok value → is_some (document policy) ≡ true
-unfolding policy_of
-is_document policy value read = document_by (document policy) says value read
-
 -- nor a place
 no_place_at : (f : Fault) (policy : List ℕ) (value : PolicyValue) → policy_of policy ≡ Ok value → IsPlaceAt f policy None
-no_place_at fault.BadToml policy value read = (ap not (sym (is_document policy value read)), tt)
+no_place_at fault.BadToml policy value read = (ap not (sym (policy_document policy value read)), tt)
 no_place_at (fault.BadRule number) policy value read = ap (place_of policy) (no_reason policy value read)
 no_place_at (fault.Limit key) policy value read = ap (place_of policy) (no_reason policy value read)
 no_place_at fault.BadRandom policy value read = refl

@@ -12,7 +12,7 @@ use Rattle.ds_policy.specs.PolicyParts.{sources_of}
 use Rattle.ds_policy.specs.Value.{PolicyValue}
 use Rattle.ds_policy.specs.Refusal.{PolicyRefusal, Fails}
 use Rattle.ds_policy.specs.declared.fault.PolicyFault.{PolicyFault}
-use Rattle.ds_policy_reasons.specs.declared.input_cause.InputCause.{InputCause}
+use Rattle.ds_policy.specs.declared.events.cause.InputCause.{InputCause}
 use Rattle.ds_policy.specs.declared.fault.PolicyFault.TheVariants as policy_fault
 use Rattle.ds_pagemap.specs.Machine.{State}
 use Rattle.ds_pagemap.specs.Inputs.{Refusal, Sources, inputs, inputs_under}

@@ -23,7 +23,7 @@ use Rattle.ds_trace.specs.Handed.{IsLate}
 use Rattle.ds_trace.specs.Summed.{summed_text}
 use Rattle.ds_trace.specs.Traces.{TraceEndsBy, WritesTraceBy, WritesTracePart, WritesTraceReally, counts_along, told_to}
 use Rattle.ds_trace.proofs.Inputs.{short_part}
-use Rattle.ds_view.specs.declared.view.View.{View}
+use Rattle.ds_words.specs.declared.view.View.{View}
 use Rattle.ds_words.specs.Windows.{windows_in}
 use Rattle.ds_words.specs.declared.words.TraceRequest.{TraceRequest}
 use Rattle.ds_words.specs.Words.{AsksForTrace}

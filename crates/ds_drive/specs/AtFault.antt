@@ -7,10 +7,9 @@ use Rattle.ds_policy.specs.Document.{document}
 use Rattle.ds_policy.specs.PolicyText.{policy_of}
 use Rattle.ds_policy.specs.Value.{PolicyValue}
 use Rattle.ds_policy.specs.declared.policy.PolicyPage.{PolicyPage}
-use Rattle.ds_policy_reasons.specs.Inputs.{input_reason}
-use Rattle.ds_policy_reasons.specs.Policies.{policy_reason}
-use Rattle.ds_policy_reasons.specs.declared.input_cause.InputCause.{InputCause}
-use Rattle.ds_policy_reasons.specs.declared.reason.PolicyReason.{PolicyReason}
+use Rattle.ds_policy_reasons.specs.Reasons.{input_reason, policy_reason}
+use Rattle.ds_policy.specs.declared.events.cause.InputCause.{InputCause}
+use Rattle.ds_policy.specs.declared.cause.PolicyReason.{PolicyReason}
 use Rattle.ds_pagemap.specs.Inputs.{Sources, text_named}
 use Rattle.ds_station.specs.declared.fault.Fault.{Fault}
 use Rattle.ds_station.specs.declared.fault.Fault.TheVariants as fault

@@ -1,13 +1,13 @@
 -- What is told besides of a policy that is refused: the key that no policy has, or that the text is a source.
 use Rattle.std.specs.Prelude.{ℕ, Bool, true, false, ◌&&◌, if◌then◌else◌, List, [], Option, None, Some}
-use Rattle.ds_policy_reasons.specs.declared.policy_cause.ProcessCause.TheVariants as process
-use Rattle.ds_policy_reasons.specs.declared.policy_cause.PageCause.TheVariants as page
-use Rattle.ds_policy_reasons.specs.declared.policy_cause.RuleCause.TheVariants as rule
-use Rattle.ds_policy_reasons.specs.declared.policy_cause.ProcessCause.{ProcessCause}
-use Rattle.ds_policy_reasons.specs.declared.policy_cause.PageCause.{PageCause}
-use Rattle.ds_policy_reasons.specs.declared.policy_cause.RuleCause.{RuleCause}
-use Rattle.ds_policy_reasons.specs.declared.reason.PolicyReason.{PolicyReason}
-use Rattle.ds_policy_reasons.specs.declared.reason.PolicyReason.TheVariants as reason
+use Rattle.ds_policy.specs.declared.cause.ProcessCause.TheVariants as process
+use Rattle.ds_policy.specs.declared.cause.PageCause.TheVariants as page
+use Rattle.ds_policy.specs.declared.cause.RuleCause.TheVariants as rule
+use Rattle.ds_policy.specs.declared.cause.ProcessCause.{ProcessCause}
+use Rattle.ds_policy.specs.declared.cause.PageCause.{PageCause}
+use Rattle.ds_policy.specs.declared.cause.RuleCause.{RuleCause}
+use Rattle.ds_policy.specs.declared.cause.PolicyReason.{PolicyReason}
+use Rattle.ds_policy.specs.declared.cause.PolicyReason.TheVariants as reason
 use Rattle.ds_policy_reasons.specs.Keys.{OddKey, odd_key, odd_key_text}
 use Rattle.ds_policy_reasons.specs.Kinds.{reads_as_policy, reads_as_source}
 use Rattle.ds_drive.specs.declared.hints.TheConstants.{POLICY_GIVEN, SOURCE_GIVEN}

@@ -5,10 +5,10 @@ use Rattle.ds_asm.specs.declared.fault.SourceFault.{SourceFault}
 use Rattle.ds_asm.specs.Assembly.{assembled}
 use Rattle.ds_check.specs.Starts.{starts_text}
 use Rattle.ds_listing.specs.Listing.{rows_of}
-use Rattle.ds_notes.specs.CodeNotes.{notes_after}
-use Rattle.ds_notes.specs.InputNotes.{crowds}
-use Rattle.ds_notes.specs.PolicyNotes.{policy_notes}
-use Rattle.ds_notes.specs.Texts.{code_notes_text, crowds_text, policy_notes_text}
+use Rattle.ds_check.specs.CodeNotes.{notes_after}
+use Rattle.ds_check.specs.InputNotes.{crowds}
+use Rattle.ds_check.specs.PolicyNotes.{policy_notes}
+use Rattle.ds_check.specs.NoteTexts.{code_notes_text, crowds_text, policy_notes_text}
 use Rattle.ds_pagemap.specs.Inputs.{Sources}
 use Rattle.ds_policy.specs.Value.{InputValue, PolicyValue}
 

@@ -4,14 +4,14 @@ use Rattle.ds_check.specs.declared.items.Items.{Items}
 use Rattle.ds_check.specs.declared.items.Items.TheVariants.{Processes, Pages, Rules}
 use Rattle.ds_check.specs.declared.places.Place.{Place}
 use Rattle.ds_check.specs.Items.{item_place, root_key_place}
-use Rattle.ds_policy_reasons.specs.declared.policy_cause.ProcessCause.{ProcessCause}
-use Rattle.ds_policy_reasons.specs.declared.policy_cause.ProcessCause.TheVariants as process
-use Rattle.ds_policy_reasons.specs.declared.policy_cause.PageCause.{PageCause}
-use Rattle.ds_policy_reasons.specs.declared.policy_cause.PageCause.TheVariants as page
-use Rattle.ds_policy_reasons.specs.declared.policy_cause.RuleCause.{RuleCause}
-use Rattle.ds_policy_reasons.specs.declared.policy_cause.RuleCause.TheVariants as rule
-use Rattle.ds_policy_reasons.specs.declared.reason.PolicyReason.{PolicyReason}
-use Rattle.ds_policy_reasons.specs.declared.reason.PolicyReason.TheVariants as reason
+use Rattle.ds_policy.specs.declared.cause.ProcessCause.{ProcessCause}
+use Rattle.ds_policy.specs.declared.cause.ProcessCause.TheVariants as process
+use Rattle.ds_policy.specs.declared.cause.PageCause.{PageCause}
+use Rattle.ds_policy.specs.declared.cause.PageCause.TheVariants as page
+use Rattle.ds_policy.specs.declared.cause.RuleCause.{RuleCause}
+use Rattle.ds_policy.specs.declared.cause.RuleCause.TheVariants as rule
+use Rattle.ds_policy.specs.declared.cause.PolicyReason.{PolicyReason}
+use Rattle.ds_policy.specs.declared.cause.PolicyReason.TheVariants as reason
 use Rattle.ds_policy_reasons.specs.Keys.{OddKey, odd_key}
 use Rattle.ds_source_reasons.specs.Reasons.{or_next}
 

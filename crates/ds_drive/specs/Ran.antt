@@ -23,7 +23,7 @@ use Rattle.ds_drive.specs.Outcomes.{IsFollowed, left, where_asked}
 use Rattle.ds_drive.specs.Placed.{OfPlaced}
 use Rattle.ds_trace.specs.Accounts.{account_text}
 use Rattle.ds_trace.specs.Summed.{summed_text}
-use Rattle.ds_view.specs.Views.{whole}
+use Rattle.ds_words.specs.Views.{whole}
 use Rattle.ds_drive.specs.declared.outcome.Outcome.{Outcome}
 
 -- of texts that the files hold, read as the first state of a run and as what it begins with, this holds

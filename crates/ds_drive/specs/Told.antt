@@ -9,10 +9,10 @@ use Rattle.ds_check.specs.Lines.{line_at, shown_line}
 use Rattle.ds_check.specs.Mending.{mended}
 use Rattle.ds_source_reasons.specs.declared.fault.FaultyLines.{FaultyLines}
 use Rattle.ds_policy_reasons.specs.CausePlaces.{cause_place}
-use Rattle.ds_policy_reasons.specs.declared.input_cause.InputCause.{InputCause}
+use Rattle.ds_policy.specs.declared.events.cause.InputCause.{InputCause}
 use Rattle.ds_policy_reasons.specs.Texts.{input_cause_text, policy_reason_text}
-use Rattle.ds_policy_reasons.specs.declared.reason.PolicyReason.{PolicyReason}
-use Rattle.ds_policy_reasons.specs.declared.reason.PolicyReason.TheVariants as reason
+use Rattle.ds_policy.specs.declared.cause.PolicyReason.{PolicyReason}
+use Rattle.ds_policy.specs.declared.cause.PolicyReason.TheVariants as reason
 use Rattle.ds_source_reasons.specs.Carets.{caret_place}
 use Rattle.ds_source_reasons.specs.Missing.{last_word, last_word_place, like_label, missing_text}
 use Rattle.ds_source_reasons.specs.Reasons.{or_next}

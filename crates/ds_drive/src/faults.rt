@@ -15,7 +15,7 @@ use ds_source_reasons::{
     FaultReason, FaultyLines, caret_place, last_word, last_word_place, like_label, push_missing,
     push_reason,
 };
-use itoa::Buffer;
+use ds_text::sheet::push_decimal;
 use std::alloc::{AllocError, Global};
 
 /// From how many bytes on a text goes to the writer.
@@ -131,7 +131,7 @@ fn push_told<'a, 's>(
 {
     let reason = reasons.reason(*fault);
     push_head(sheet, wording, fault)?;
-    sheet.extend_from_slice(Buffer::new().format(fault.line()).as_bytes())?;
+    push_decimal(sheet, u64::from(fault.line()))?;
     push_reason_line(sheet, words, reason)?;
     sheet.push(b'\n')?;
     push_fault_shown(sheet, wording.text, lines, reason, fault)?;
@@ -292,7 +292,7 @@ fn front_of(line: &[u8], most: usize) -> &[u8]
 fn push_name(text: &mut Vec<u8>, fault: &SourceFault) -> Result<(), AllocError>
     ensures { OnOk result (text.new.items ≡ text.old.items ++ fault_name fault.now) }
 {
-    text.extend_from_slice(Buffer::new().format(fault.number()).as_bytes())?;
+    push_decimal(text, u64::from(fault.number()))?;
     text.extend_from_slice(b" ")?;
     text.extend_from_slice(fault.name().as_bytes())?;
     text.extend_from_slice(b" ")

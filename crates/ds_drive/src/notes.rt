@@ -10,9 +10,11 @@ ghost use Rattle.ds_drive.specs.Noted.{guest_notes, image_of, images_of, input_n
 use crate::run::{SourceText, lent};
 use crate::status::INPUT_REFUSED;
 use ds_asm::{Image, assemble};
-use ds_check::{AssembledSources, starts_text};
+use ds_check::{
+    AssembledSources, code_notes, code_notes_text, crowds, crowds_text, policy_notes,
+    policy_notes_text, starts_text,
+};
 use ds_log::{Output, send};
-use ds_notes::{code_notes, code_notes_text, crowds, crowds_text, policy_notes, policy_notes_text};
 use ds_policy::{Events, EventsFault, OutOfMemory, Policy};
 use std::alloc::{AllocError, Global};
 

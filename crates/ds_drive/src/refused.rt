@@ -1,6 +1,6 @@
 //! What a check refuses, and what is at fault then.
 ghost use Rattle.std.specs.Prelude.{◌≡◌, ◌<◌, ◌≤◌, ℕ, List, length, None, IfOk, IfSome, position, bytes_eq};
-ghost use Rattle.ds_policy_reasons.specs.Policies.{policy_reason};
+ghost use Rattle.ds_policy_reasons.specs.Reasons.{policy_reason};
 ghost use Rattle.ds_drive.specs.AtFault.{IsCauseOf, IsInputAt, IsPlaceAt, IsReasonAt, IsSourceAt, IsSourceOf, place_told, plain, texts_seen};
 ghost use Rattle.ds_drive.specs.Failures.{memory_failure};
 ghost use Rattle.ds_drive.specs.declared.failure.Failure.TheVariants as failure;

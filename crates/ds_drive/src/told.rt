@@ -22,6 +22,7 @@ use ds_log::{Output, WriteFailed, send, send_all};
 use ds_policy_reasons::{InputCause, cause_place};
 use ds_source_reasons::FaultyLines;
 use ds_station::Fault;
+use ds_text::sheet::push_decimal;
 use itoa::Buffer;
 use std::alloc::{AllocError, Global};
 
@@ -247,9 +248,9 @@ fn push_place_line(sheet: &mut Vec<u8>, place: Place) -> Result<(), AllocError>
     ensures { OnOk result (sheet.new.items ≡ sheet.old.items ++ place_line place) }
 {
     sheet.extend_from_slice(b"in line ")?;
-    sheet.extend_from_slice(Buffer::new().format(place.line).as_bytes())?;
+    push_decimal(sheet, place.line)?;
     sheet.extend_from_slice(b", column ")?;
-    sheet.extend_from_slice(Buffer::new().format(place.column).as_bytes())?;
+    push_decimal(sheet, place.column)?;
     sheet.extend_from_slice(b" of the policy\n")
 }
 

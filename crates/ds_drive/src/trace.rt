@@ -20,8 +20,7 @@ use ds_log::Output;
 use ds_policy::Policy;
 use ds_station::{Extent, Fault};
 use ds_trace::{Summed, pages_with, trace_station, trace_summed};
-use ds_view::View;
-use ds_words::TraceRequest;
+use ds_words::{TraceRequest, View};
 use std::alloc::{AllocError, Global};
 use std::io::Write;
 

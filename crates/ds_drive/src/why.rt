@@ -9,7 +9,7 @@ use ds_asm::SourceFault;
 use ds_check::mend_text;
 use ds_policy_reasons::{PolicyReason, input_cause_text, policy_reason_text};
 use ds_source_reasons::{FaultReason, FaultyLines, push_reason};
-use itoa::Buffer;
+use ds_text::sheet::push_decimal;
 use std::alloc::AllocError;
 
 /// Adds why a check is refused, and answers whether a reason is known.
@@ -94,7 +94,7 @@ fn push_number(sheet: &mut Vec<u8>, number: u32) -> Result<(), AllocError>
     ensures { OnOk result (sheet.new.items
         ≡ sheet.old.items ++ (decimal number ++ codes " of the policy\n")) }
 {
-    sheet.extend_from_slice(Buffer::new().format(number).as_bytes())?;
+    push_decimal(sheet, u64::from(number))?;
     sheet.extend_from_slice(b" of the policy\n")
 }
 

@@ -3,8 +3,8 @@ ghost use Rattle.std.specs.Prelude.{◌≡◌, ◌-◌, ◌++◌, ◌<◌, ◌�
 ghost use Rattle.ds_asm.specs.Assembly.{lines_of};
 ghost use Rattle.ds_explain.specs.Chosen.{end_by, end_text, most_of, others_text, skipped};
 
-use crate::digits::push_decimal;
 use ds_asm::first_line;
+use ds_text::sheet::push_decimal;
 use std::alloc::AllocError;
 
 /// Which lines of a log are told.

@@ -3,7 +3,6 @@
 #![tactic(auto)]
 
 mod chosen;
-mod digits;
 mod explain;
 mod moments;
 

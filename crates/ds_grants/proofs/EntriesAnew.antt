@@ -1,8 +1,10 @@
 -- Entries of the buffer that are written anew, one after the other.
-use Rattle.std.proofs.Common.{◌≡◌, ℕ, ◌/◌, ◌^◌, ◌<◌, ◌≤◌, ◌⊎◌, ◌==◌, Bool, true, false, List, [], ◌∷◌, Option, Some, None, refl, sym, ap, ap₂, subst, ◌∙◌, arith, inl, inr, length-set}
+use Rattle.std.proofs.Common.{◌≡◌, ◌≢◌, ℕ, ◌/◌, ◌^◌, ◌<◌, ◌≤◌, ◌⊎◌, ◌==◌, Bool, true, false, List, [], ◌∷◌, Option, Some, None, refl, sym, ap, ap₂, subst, ◌∙◌, arith, inl, inr, set, length-set}
 use Rattle.std.specs.List.{All}
 use Rattle.std.specs.Prelude.{◌&&◌, ◌||◌, slice_get, slice_set}
-use Rattle.std.proofs.lemmas.Bool.{cases_Bool}
+use Rattle.std.proofs.lemmas.Bool.{cases_Bool, cases_eq}
+use Rattle.std.proofs.lemmas.List.{get_or-set_same}
+use Rattle.std.proofs.lemmas.Option.{slice_get-get_or, slice_get_within}
 use Rattle.std.proofs.lemmas.Bool.Decides.{nat_tests}
 use Rattle.ds_word.specs.Word.{bits}
 use Rattle.ds_tlb.specs.declared.entry.Entry.{Entry}
@@ -14,10 +16,8 @@ use Rattle.ds_tlb.proofs.Matches.{found_matches, entry_of_match}
 use Rattle.ds_tables.specs.Places.{Places}
 use Rattle.ds_asid.specs.Spaces.{Spaces, AreApart, number_of, number_held}
 use Rattle.ds_asid.proofs.Apart.{none_held, some_held, held_some}
-use Rattle.ds_bounds.specs.Steps.{HasKeys}
-use Rattle.ds_bounds.proofs.Slots.{keys_reworded, keys_again}
 use Rattle.ds_grants.specs.Buffer.{hi_of}
-use Rattle.ds_grants.specs.Copies.{AreRewritten}
+use Rattle.ds_grants.specs.Copies.{AreRewritten, HasKeys}
 use Rattle.ds_grants.specs.Rewords.{with_lo, rewritten, found_rewritten, with_entry_lo}
 use Rattle.ds_grants.proofs.Fields.{has_page, has_space}
 use Rattle.ds_grants.proofs.Translations.{at_set, set_single, found_there}
@@ -52,6 +52,27 @@ page_number : (a : ℕ) → a < 2 ^ 31 → a / 2 ^ 12 < 2 ^ 19
 page_number a e = omega arith
 
 -- Keys stay.
+
+-- an entry that is worded anew keeps its key
+pub keys_reworded : (entries : List Entry) (slot : ℕ) (old e : Entry) → slice_get entries slot ≡ Some old → e.vpn ≡ old.vpn → e.asid ≡ old.asid → HasKeys entries (slice_set entries slot e)
+keys_reworded entries slot old e is page space other f at = by_cases (cases_eq other slot)
+  where
+    by_cases : (other ≡ slot) ⊎ (other ≢ slot) → (g : Entry) × (slice_get (slice_set entries slot e) other ≡ Some g) × (g.vpn ≡ f.vpn) × (g.asid ≡ f.asid)
+    by_cases (inl here) =
+        let within = slice_get_within entries slot old is in
+        let size = length-set entries slot e in
+        let same : Some f ≡ Some old = sym at ∙ (ap (slice_get entries) here ∙ is) in
+        let alike : f ≡ old = cc in
+        let there : slice_get (set entries slot e) slot ≡ Some e = slice_get-get_or (set entries slot e) slot e (omega arith) ∙ ap (λ (x : Entry). Some x) (get_or-set_same entries slot e e within) in
+        (e, ap (slice_get (set entries slot e)) here ∙ there, page ∙ ap (λ (x : Entry). x.vpn) (sym alike), space ∙ ap (λ (x : Entry). x.asid) (sym alike))
+    by_cases (inr apart) = (f, read_set_other entries slot other e apart ∙ at, refl, refl)
+
+-- so do keys after keys
+pub keys_again : (old between new : List Entry) → HasKeys old between → HasKeys between new → HasKeys old new
+keys_again old between new first second slot e at =
+    let f = first slot e at in
+    let g = second slot f.0 f.1 in
+    (g.0, g.1, g.2 ∙ f.2, g.3 ∙ f.3)
 
 keys_same : (entries : List Entry) → HasKeys entries entries
 keys_same entries = λ slot e at. (e, at, refl, refl)

@@ -5,6 +5,7 @@ pub mod Chains
 pub mod ChildRows
 pub mod ChildSteps
 pub mod Children
+pub mod Clearing
 pub mod Copies
 pub mod Emptying
 pub mod Endings
@@ -18,6 +19,7 @@ pub mod FirstGrants
 pub mod FirstPages
 pub mod FirstWhere
 pub mod FlatFamilies
+pub mod FreeFrames
 pub mod Forgets
 pub mod Gone
 pub mod Handing
@@ -41,6 +43,7 @@ pub mod Seen
 pub mod RegionsSeen
 pub mod RuleWords
 pub mod Sizes
+pub mod Swapped
 pub mod Translations
 pub mod WordRows
 pub mod WordsAnew

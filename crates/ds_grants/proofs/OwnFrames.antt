@@ -5,13 +5,11 @@ use Rattle.std.proofs.lemmas.Bool.{cases_eq, cases_lt}
 use Rattle.std.proofs.lemmas.Bool.Decides.{nat_tests}
 use Rattle.std.proofs.lemmas.List.{get_or-set_same, get_or-set_other, same_lists, length-replicate, get_or_past, length-take-le, get_or-take}
 use Rattle.std.proofs.lemmas.List.FromFn.{length-map-range_with_len, get_or-map-range_with_len}
-use Rattle.std.proofs.lemmas.List.Sums.{sum_by-cons, sum_by-take-le}
+use Rattle.std.proofs.lemmas.List.Sums.{sum_by-take-le}
 use Rattle.ds_word.specs.Word.{truth}
 use Rattle.ds_mem.specs.Memory.{frame_of, with_frame}
 use Rattle.ds_mem.proofs.Frames.{frame_of-with_frame}
 use Rattle.ds_mem.proofs.Words.{length-with_frame, long-with_frame}
-use Rattle.ds_bounds.specs.Kept.{total}
-use Rattle.ds_bounds.proofs.Counting.{free}
 use Rattle.ds_policy.specs.declared.grant.Entry.{Entry}
 use Rattle.ds_policy.specs.declared.grant.Grant.{Grant}
 use Rattle.ds_policy.specs.declared.grant.Right.TheVariants.{Write}
@@ -21,16 +19,17 @@ use Rattle.ds_grants.specs.State.{GrantsState, is_live, is_shared, page_in, page
 use Rattle.ds_grants.specs.Sound.{AreCounted, AreLaidOut, IsSound}
 use Rattle.ds_grants.specs.Counts.{page_of}
 use Rattle.ds_grants.specs.Copies.{with_own_frame, LiesOtherwise}
-use Rattle.ds_grants.specs.Frames.{count_lying, AreLying}
+use Rattle.ds_grants.specs.Frames.{count_lying, AreLying, total}
+use Rattle.ds_grants.proofs.FreeFrames.{free, sums}
 use Rattle.ds_grants.specs.Represented.{IsHigh}
 use Rattle.ds_grants.proofs.Copies.{frame_long, frames_apart}
 use Rattle.ds_grants.proofs.Sizes.{has_page}
 
 -- Counts.
 
-one_or_none : (b : Bool) → truth b ≤ 1
-one_or_none true = omega arith
-one_or_none false = omega arith
+pub truth_small : (b : Bool) → truth b ≤ 1
+truth_small true = omega arith
+truth_small false = omega arith
 
 -- a page that lives and lies there counts as one
 lies_there : (g : GrantsState) (frame page : ℕ) → is_live g page ≡ true → slice_index g.lies page ≡ frame → truth (is_live g page && (slice_index g.lies page == frame)) ≡ 1
@@ -65,10 +64,7 @@ two_lie g frame (suc n) j k first second apart one other lies too = elim (cases_
 
 pub few_lie : (g : GrantsState) (frame n : ℕ) → count_lying g frame n ≤ n
 few_lie g frame zero = omega arith
-few_lie g frame (suc n) = let here = one_or_none (is_live g n && (slice_index g.lies n == frame)) in let before = few_lie g frame n in omega (arith, here, before)
-
-sums : (x : ℕ) (xs : List ℕ) → total (x ∷ xs) ≡ x + total xs
-sums x xs = sum_by-cons (λ (n : ℕ). n) x xs
+few_lie g frame (suc n) = let here = truth_small (is_live g n && (slice_index g.lies n == frame)) in let before = few_lie g frame n in omega (arith, here, before)
 
 none_in_all : (n : ℕ) → total (replicate n 0) ≡ 0
 none_in_all zero = refl

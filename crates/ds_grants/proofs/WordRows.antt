@@ -1,8 +1,9 @@
 -- What holds of pages and frames at the ends of their ranges: each row is a theorem about the
 -- definitions alone.
-use Rattle.std.proofs.Common.{◌≡◌, ℕ, ◌*◌, ◌^◌, true, false, List, [], ◌∷◌, Some, None, refl, arith, inl, inr}
+use Rattle.std.proofs.Common.{◌≡◌, ℕ, ◌*◌, ◌^◌, true, false, List, [], ◌∷◌, Some, None, refl, ap, arith, inl, inr}
 use Rattle.std.specs.Prelude.{slice_set}
 use Rattle.std.proofs.lemmas.Map.Keys.{IsDistinct-head}
+use Rattle.ds_tlb.specs.declared.entry.Entry.{Entry}
 use Rattle.ds_mem.specs.Memory.{frame_of}
 use Rattle.ds_policy.specs.declared.grant.Right.TheVariants.{Nothing, Read}
 use Rattle.ds_grants.specs.State.{GrantsState, with_grant}
@@ -10,6 +11,7 @@ use Rattle.ds_tables.specs.Places.{Places}
 use Rattle.ds_tables.specs.Tables.{entry_word}
 use Rattle.ds_grants.specs.Words.{granted_word, WordsHold}
 use Rattle.ds_grants.specs.Buffer.{IsMapped}
+use Rattle.ds_grants.specs.Copies.{HasKeys}
 use Rattle.ds_grants.specs.Represented.{IsLow, IsHigh, HasRegion}
 use Rattle.ds_grants.specs.Sound.{IsAtPage, has_same_address, IsGoodRow, AreLaidOut}
 use Rattle.ds_grants.specs.Rows.{grant, entry, grants}
@@ -49,3 +51,12 @@ two_entries_have_two_addresses k =
     let first = IsDistinct-head has_same_address (entry 0x00400000 Read (Some 0)) (entry 0x00400000 Read (Some 1) ∷ []) k.places in
     let no : true ≡ false = first.0 in
     absurd cc
+
+pub an_entry_of_another_page_has_another_key : (e f : Entry) → e.vpn ≡ 1 → f.vpn ≡ 2 → HasKeys (e ∷ []) (f ∷ []) → ⊥
+an_entry_of_another_page_has_another_key e f one two keys =
+    let g = keys 0 e refl in
+    let same : Some f ≡ Some g.0 = g.1 in
+    let alike : f ≡ g.0 = cc in
+    let page : f.vpn ≡ g.0.vpn = ap (λ (x : Entry). x.vpn) alike in
+    let stays = g.2 in
+    absurd (omega (arith, page, stays, one, two))

@@ -1,7 +1,6 @@
 -- Pages that lie in one frame, and what the buffer has of a page whose frame or mark changed.
-use Rattle.std.specs.Prelude.{◌≡◌, ◌≢◌, ℕ, true, false, List, length, slice_index, slice_set}
+use Rattle.std.specs.Prelude.{◌≡◌, ◌≢◌, ℕ, true, false, List, length, slice_get, slice_index, slice_set, Some}
 use Rattle.ds_tlb.specs.declared.entry.Entry.{Entry}
-use Rattle.ds_bounds.specs.Steps.{HasKeys}
 use Rattle.ds_grants.specs.State.{GrantsState, is_live, is_shared}
 
 -- a page without bytes of its own yet lies where another lies, and both are marked
@@ -24,7 +23,11 @@ IsMarked g page = (other : ℕ) → is_live g other ≡ true → other ≢ page
     → slice_index g.lies other ≡ slice_index g.lies page
     → (is_shared g other ≡ true) × (is_shared g page ≡ true)
 
--- each slot has an entry of the same page and address space as before: entries are rewritten, and none is forgotten
+-- each slot has an entry of the same page and address space as before
+abbrev pub HasKeys : List Entry → List Entry → Type 0
+HasKeys old new = (slot : ℕ) (e : Entry) → slice_get old slot ≡ Some e → (f : Entry) × (slice_get new slot ≡ Some f) × (f.vpn ≡ e.vpn) × (f.asid ≡ e.asid)
+
+-- so it is for as many slots: entries are rewritten, and none is forgotten
 abbrev pub AreRewritten : List Entry → List Entry → Type 0
 AreRewritten old new = HasKeys old new × (length new ≡ length old)
 

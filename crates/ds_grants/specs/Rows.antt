@@ -13,6 +13,7 @@ use Rattle.ds_grants.specs.State.{GrantsState, erased_grant, without_grant}
 use Rattle.ds_grants.specs.Parents.{AreAlike}
 use Rattle.ds_grants.specs.First.{no_grants}
 use Rattle.ds_grants.specs.Copies.{with_copy, with_own_frame}
+use Rattle.ds_grants.specs.Frames.{total}
 use Rattle.ds_tables.specs.Places.{Places}
 use Rattle.ds_tables.specs.Tables.{with_entry}
 use Rattle.ds_grants.specs.Words.{word_of_right, granted_word, regions_taken}
@@ -192,3 +193,8 @@ a_share_of_what_is_erased_keeps_it = refl
 
 pub the_two_are_alike : AreAlike (without_grant shared_twice 2 0x00500000).table (erased_grant shared_twice 2 0x00500000).table
 the_two_are_alike = refl
+
+-- Frames.
+
+pub two_pages_of_a_frame_are_two : total (2 ∷ 0 ∷ 1 ∷ []) ≡ 3
+two_pages_of_a_frame_are_two = refl

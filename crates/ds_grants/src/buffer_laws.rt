@@ -1,12 +1,13 @@
 //! What a translation lookaside buffer holds at its start, after a fill, and after a change of what is
-//! granted.
-ghost use Rattle.std.specs.Prelude.{◌≡◌, ◌⊎◌, ℕ, ◌<◌, ◌≤◌, ◌^◌, List, length, slice_set, Some, None};
+//! granted; and entries whose keys stay.
+ghost use Rattle.std.specs.Prelude.{◌≡◌, ◌⊎◌, ℕ, ◌<◌, ◌≤◌, ◌^◌, List, length, slice_get, slice_set, Some, None};
 ghost use Rattle.ds_tlb.specs.declared.entry.Entry.{Entry};
 ghost use Rattle.ds_tlb.specs.Entries.{find, empty_entries};
 ghost use Rattle.ds_grants.specs.State.{GrantsState};
 ghost use Rattle.ds_tables.specs.Places.{Places};
 ghost use Rattle.ds_asid.specs.Spaces.{Spaces, AreApart, number_of, number_held};
 ghost use Rattle.ds_grants.specs.Buffer.{IsMapped, BufferHolds, entry_for, filled};
+ghost use Rattle.ds_grants.specs.Copies.{HasKeys};
 ghost use Rattle.ds_grants.specs.Changes.{both_forgotten, IsChangedAt};
 
 /// At its start and after a flush a buffer of at most 64 slots maps nothing, so it holds whatever is
@@ -40,4 +41,14 @@ pub fn a_buffer_forgets_what_changed()
     ensures { (entries : List Entry) (s : Spaces) (g h : GrantsState) (t u : Places) (p address : ℕ)
         → IsChangedAt g h t u p address → BufferHolds entries s g t
         → BufferHolds (both_forgotten entries address (number_held s p)) s h u }
+{}
+
+/// An entry may be replaced by one of the same page and address space; so may many, one after the
+/// other.
+pub fn keys_stay()
+    ensures one { (entries : List Entry) (slot : ℕ) (old e : Entry)
+        → slice_get entries slot ≡ Some old → e.vpn ≡ old.vpn → e.asid ≡ old.asid
+        → HasKeys entries (slice_set entries slot e) }
+    ensures many { (old between new : List Entry) → HasKeys old between → HasKeys between new
+        → HasKeys old new }
 {}

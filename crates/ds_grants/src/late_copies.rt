@@ -1,5 +1,5 @@
 //! Copies that were put off: a page that is stored to gets a frame of its own, where it shares one.
-ghost use Rattle.std.specs.Prelude.{◌≡◌, ◌≢◌, ℕ, ◌<◌, ◌≤◌, true, false, length, slice_index, slice_set, Some, IfSome, IsNone};
+ghost use Rattle.std.specs.Prelude.{◌≡◌, ◌≢◌, ℕ, ◌<◌, ◌≤◌, true, false, List, length, slice_index, slice_set, Some, IfSome, IsNone};
 ghost use Rattle.ds_mem.specs.Memory.{frame_of};
 ghost use Rattle.ds_policy.specs.declared.grant.Grant.{Grant};
 ghost use Rattle.ds_policy.specs.declared.grant.Right.TheVariants.{Write};
@@ -7,7 +7,7 @@ ghost use Rattle.ds_policy.specs.Pages.{entry_at};
 ghost use Rattle.ds_grants.specs.State.{IsAsLarge, is_live, page_state};
 ghost use Rattle.ds_grants.specs.Counts.{page_of};
 ghost use Rattle.ds_grants.specs.Copies.{AreRewritten, with_own_frame};
-ghost use Rattle.ds_grants.specs.Frames.{AreLying};
+ghost use Rattle.ds_grants.specs.Frames.{AreLying, total};
 ghost use Rattle.ds_grants.specs.Represented.{IsHigh, Keeps};
 
 use crate::grants::Grants;
@@ -35,6 +35,14 @@ fn free_frame(counts: &[u32], frames: u32) -> Option<u32>
     }
     None
 }
+
+/// Where as many pages as there are frames are counted by their frames, and some frame has two of
+/// them, another frame has none.
+pub fn a_frame_is_free()
+    ensures { (counts : List ℕ) (frame : ℕ) → total counts ≤ length counts
+        → 2 ≤ slice_index counts frame
+        → (other : ℕ) × (other < length counts) × (slice_index counts other ≡ 0) }
+{}
 
 impl Grants {
     /// How many of the pages that live lie in each frame.

@@ -30,11 +30,12 @@ mod tally;
 mod translation;
 
 pub use buffer_laws::{
-    a_buffer_forgets_what_changed, a_filled_buffer_holds, an_empty_buffer_holds,
+    a_buffer_forgets_what_changed, a_filled_buffer_holds, an_empty_buffer_holds, keys_stay,
 };
 pub use fault::GrantFault;
 pub use first::fill_page;
 pub use grants::Grants;
+pub use late_copies::a_frame_is_free;
 pub use order::refusals_have_one_order;
 pub use represented::{
     a_change_keeps_what_is_represented, a_number_is_handed_out, pages_leave_tables_as_they_are,

@@ -1,6 +1,6 @@
 //! From which addresses of a process something may have been shared, and which processes may have it.
-ghost use Rattle.std.specs.Prelude.{◌≡◌, ◌≢◌, ◌==◌, ◌<◌, ℕ, true, false, [], position, slice_index_or, None};
-ghost use Rattle.ds_grants.specs.Origins.{Has, of_others, receivers_of, slot_of, AreSeen};
+ghost use Rattle.std.specs.Prelude.{◌≡◌, ◌≢◌, ◌==◌, ◌<◌, ℕ, true, false, [], length, position, slice_index_or, Some, None};
+ghost use Rattle.ds_grants.specs.Origins.{Has, of_others, receivers_of, slot_of, AreSeen, AreApart};
 
 use arrayvec::ArrayVec;
 use std::marker::Model;
@@ -34,25 +34,25 @@ impl Default for Origin {
     }
 }
 
-/// The addresses of a process from which something may have been shared. Where there was no room for
-/// one, something may have been shared from any other.
+/// The addresses of a process from which something may have been shared, no two of them alike. Where
+/// there was no room for one, something may have been shared from any other.
 #[derive(Drop)]
 pub(crate) struct Origins {
     known: ArrayVec<Origin, MOST>,
-    /// For each slot whether an address that has it was ever known: one whose slot isn't seen needs no
-    /// search.
-    seen: [bool; SLOTS],
+    /// For each slot one more than the place at which an address that has it came last, or 0 where none
+    /// ever did: it stands there, unless it has gone or another that has the slot came since.
+    places: [u16; SLOTS],
     overflowed: bool,
 }
 
 impl Model for Origins {
-    ghost use Rattle.ds_grants.specs.Origins.{OriginsState, AreSeen};
+    ghost use Rattle.ds_grants.specs.Origins.{OriginsState, AreSeen, AreApart};
 
     ghost Value = { OriginsState };
 
     ghost view = { λ o. record { known = o.known.items; overflowed = o.overflowed } };
 
-    ghost invariant = { λ o. AreSeen o.seen o.known.items };
+    ghost invariant = { λ o. AreSeen o.places o.known.items × AreApart o.known.items };
 }
 
 impl Origins {
@@ -62,7 +62,7 @@ impl Origins {
     {
         Origins {
             known: ArrayVec::new(),
-            seen: [false; SLOTS],
+            places: [0; SLOTS],
             overflowed: false,
         }
     }
@@ -71,7 +71,7 @@ impl Origins {
     pub(crate) fn receivers(&self, addr: u32) -> u128
         ensures { result ≡ receivers_of self.now addr }
     {
-        match find(self.known.as_slice(), &self.seen, addr) {
+        match find(self.known.as_slice(), &self.places, addr) {
             Some(i) => self.known[i].receivers,
             None => of_others(self.overflowed),
         }
@@ -100,7 +100,7 @@ impl Origins {
         ensures kept { (a q : ℕ) → Has (receivers_of self.old a) q
             → Has (receivers_of self.new a) q }
     {
-        match find(self.known.as_slice(), &self.seen, addr) {
+        match find(self.known.as_slice(), &self.places, addr) {
             Some(i) => self.known[i].receivers |= receivers,
             None => self.append(addr, receivers),
         }
@@ -113,10 +113,23 @@ impl Origins {
         ensures others { (a q : ℕ) → a ≢ addr → Has (receivers_of self.old a) q
             → Has (receivers_of self.new a) q }
     {
-        match find(self.known.as_slice(), &self.seen, addr) {
-            Some(i) => self.known.remove(i).receivers,
+        match find(self.known.as_slice(), &self.places, addr) {
+            Some(i) => self.remove_at(addr, i),
             None => of_others(self.overflowed),
         }
+    }
+
+    /// Removes the address that stands at this place, into which the last one comes. The processes that may
+    /// have what was shared from it are returned.
+    fn remove_at(&mut self, addr: u32, place: usize) -> u128
+        requires { position (λ o. o.address == addr) self.old.known ≡ Some place }
+        ensures receivers { result ≡ receivers_of self.old addr }
+        ensures others { (a q : ℕ) → a ≢ addr → Has (receivers_of self.old a) q
+            → Has (receivers_of self.new a) q }
+    {
+        let last = self.known[self.known.len() - 1].address;
+        self.places[slot_of(last)] = place as u16 + 1;
+        self.known.swap_remove(place).receivers
     }
 
     /// Adds an address that isn't known yet.
@@ -132,7 +145,7 @@ impl Origins {
         if self.known.is_full() {
             self.overflowed = true;
         } else {
-            self.seen[slot_of(addr)] = true;
+            self.places[slot_of(addr)] = self.known.len() as u16 + 1;
             self.known.push(Origin {
                 address: addr,
                 receivers,
@@ -149,23 +162,38 @@ fn slot_of(addr: u32) -> usize
     (addr / 4096) as usize % SLOTS
 }
 
-/// Whether an address that has the slot of this one was ever known.
-fn is_seen(seen: &[bool], addr: u32) -> bool
-    ensures { result ≡ slice_index_or seen.now (slot_of addr) true }
+/// One more than the place at which an address that has the slot of this one came last, or 0.
+fn place_after(places: &[u16], addr: u32) -> usize
+    ensures { result ≡ slice_index_or places.now (slot_of addr) 1 }
 {
-    match seen.get(slot_of(addr)) {
-        Some(is_seen) => *is_seen,
-        None => true,
+    match places.get(slot_of(addr)) {
+        Some(place) => *place as usize,
+        None => 1,
     }
 }
 
+/// Whether an address is known at a place.
+fn is_known_at(known: &[Origin], place: usize, addr: u32) -> bool
+    ensures within { result ≡ true → place < length known.now }
+    ensures same { result ≡ true
+        → (slice_index_or known.now place (record { address = 0; receivers = 0 })).address ≡ addr }
+{
+    place < known.len() && known[place].address == addr
+}
+
 /// Where an address is known.
-fn find(known: &[Origin], seen: &[bool], addr: u32) -> Option<usize>
-    requires { AreSeen seen.now known.now }
+fn find(known: &[Origin], places: &[u16], addr: u32) -> Option<usize>
+    requires seen { AreSeen places.now known.now }
+    requires apart { AreApart known.now }
     ensures { result ≡ position (λ o. o.address == addr) known.now }
 {
-    if !is_seen(seen, addr) {
+    let after = place_after(places, addr);
+    if after == 0 {
         return None;
+    }
+    let place = after - 1;
+    if is_known_at(known, place, addr) {
+        return Some(place);
     }
     known.iter().position(|origin| origin.address == addr)
 }

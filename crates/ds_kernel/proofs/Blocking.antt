@@ -18,7 +18,8 @@ use Rattle.ds_refinement.specs.Told.{code_in, is_delayed}
 use Rattle.ds_refinement.specs.Held.{Held, Own}
 use Rattle.ds_refinement.specs.Units.{user_status, is_served}
 use Rattle.ds_refinement.specs.Services.{with_one_spent}
-use Rattle.ds_bounds.specs.Steps.{later}
+use Rattle.ds_refinement.specs.CourseSteps.{later}
+use Rattle.ds_grants.proofs.OwnFrames.{truth_small}
 use Rattle.ds_refinement.specs.Handling.{IsWhole}
 use Rattle.ds_refinement.specs.Stands.{IsSound}
 use Rattle.ds_refinement.specs.Steps.{steps_left}
@@ -45,11 +46,7 @@ use Rattle.ds_kernel.proofs.Rooms.{room_later, turn_room}
 use Rattle.ds_kernel.proofs.Called.{call_told}
 use Rattle.ds_kernel.proofs.Stepping.{none_is_not_some}
 
--- Small numbers.
-
-pub truth_small : (b : Bool) → truth b ≤ 1
-truth_small true = omega arith
-truth_small false = omega arith
+-- Ranks.
 
 pub rank_of : (n : ℕ) (h : Held) → h.kept.state.owed ≡ None → rank n h ≡ 131 * (n - h.kept.state.time) + steps_left h
 rank_of n h owed = ap (λ (o : Option Turn). 131 * (n - h.kept.state.time) + cond (is_some o) 130 (steps_left h)) owed

@@ -5,8 +5,8 @@ use Rattle.std.proofs.lemmas.Bool.Decides.{nat_tests}
 use Rattle.ds_word.specs.Word.{truth}
 use Rattle.ds_cp0.specs.System.{is_user}
 use Rattle.ds_core.specs.Core.{CoreState}
-use Rattle.ds_refill_laws.specs.Refill.{handler_events}
-use Rattle.ds_handler.specs.Refills.{RunsInside}
+use Rattle.ds_refill.specs.Refill.{handler_events}
+use Rattle.ds_refill.specs.Refills.{RunsInside}
 use Rattle.ds_refinement.specs.Held.{Held, Own}
 use Rattle.ds_refinement.specs.Units.{is_served}
 use Rattle.ds_refinement.specs.Real.{RealPath}
@@ -30,7 +30,8 @@ use Rattle.ds_kernel.proofs.Doing.{owed_small}
 use Rattle.ds_kernel.proofs.Stepping.{none_is_not_some}
 use Rattle.ds_kernel.specs.Going.{GoesOn}
 use Rattle.ds_kernel.specs.Refilled.{has_missed}
-use Rattle.ds_kernel.proofs.Blocking.{rank_of, truth_small}
+use Rattle.ds_grants.proofs.OwnFrames.{truth_small}
+use Rattle.ds_kernel.proofs.Blocking.{rank_of}
 use Rattle.ds_kernel.proofs.Running.{goes_join}
 
 -- where a page was missed the processor is in kernel mode

@@ -24,7 +24,8 @@ use Rattle.ds_kernel.specs.Good.{IsOrderly}
 use Rattle.ds_kernel.specs.Ended.{Does}
 use Rattle.ds_kernel.specs.Ran.{HasRun, WasCut}
 use Rattle.ds_kernel.specs.Going.{rank, GoesOn}
-use Rattle.ds_kernel.proofs.Blocking.{truth_small, few_left, rank_of}
+use Rattle.ds_grants.proofs.OwnFrames.{truth_small}
+use Rattle.ds_kernel.proofs.Blocking.{few_left, rank_of}
 
 unowed_goes : (n : ℕ) (h : Held) → h.kept.state.owed ≡ None → held_goes_on n h ≡ (nat_lt h.kept.state.time n && not (is_over h.kept.state))
 unowed_goes n h owed = ap (λ (o : Option Turn). is_some o || (nat_lt h.kept.state.time n && not (is_over h.kept.state))) owed

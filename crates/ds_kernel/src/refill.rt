@@ -1,8 +1,8 @@
 //! A whole refill at once, where a page of the process that runs was missed.
 ghost use Rattle.std.specs.Prelude.{◌≡◌, ◌≢◌, ℕ, ◌+◌, ◌<◌, [], true, false};
 ghost use Rattle.ds_cp0.specs.System.{is_user};
-ghost use Rattle.ds_refill_laws.specs.Refill.{handler_events};
-ghost use Rattle.ds_handler.specs.Refills.{RunsInside};
+ghost use Rattle.ds_refill.specs.Refill.{handler_events};
+ghost use Rattle.ds_refill.specs.Refills.{RunsInside};
 ghost use Rattle.ds_refinement.specs.Held.{Held};
 ghost use Rattle.ds_kernel.specs.Parts.{held, with_counts_of};
 ghost use Rattle.ds_kernel.specs.Good.{IsGood};
@@ -10,7 +10,7 @@ ghost use Rattle.ds_kernel.specs.Going.{GoesOn};
 ghost use Rattle.ds_kernel.specs.Refilled.{has_missed};
 
 use crate::parts::Parts;
-use ds_handler::refill_at_once;
+use ds_refill::refill_at_once;
 use ds_tlb::Lookaside;
 
 /// Where the processor goes on after the miss of a user's page: at the handler's first word.

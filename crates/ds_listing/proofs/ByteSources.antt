@@ -12,12 +12,14 @@ use Rattle.ds_asm.specs.Lines.{Byte, nothing, statement_named, statement_of, lin
 use Rattle.ds_asm.specs.Assembly.{empty_layout, most_bytes, with_line, with_lines, line_bytes, bytes_from, lines_of, address_of, assembled}
 use Rattle.ds_asm.proofs.SourceLines.{lines_of-first}
 use Rattle.ds_listing.specs.Laws.{alone, AreSaid}
-use Rattle.ds_listing.specs.Texts.{hex2, hex_digit, text_of}
+use Rattle.ds_listing.specs.Texts.{text_of}
+use Rattle.ds_text.specs.Digits.{hex2, hex_digit}
 use Rattle.ds_listing.specs.Sources.{word_of_bytes, byte_text, byte_lines, elf_magic, source_of_bytes, source_of_file}
 use Rattle.ds_listing.proofs.Numbers.{below_at, hex_digit_of, digit_read, digits_end}
 use Rattle.ds_listing.proofs.Values.{number_hexadecimal}
 use Rattle.ds_listing.proofs.Parts.{IsBody, all_both, all_weaker, is_other, body_line, until_seam, after_seam}
-use Rattle.ds_listing.proofs.Statements.{is_inside, inside_line, operands_body, statement_with}
+use Rattle.ds_listing.proofs.Operands.{is_inside}
+use Rattle.ds_listing.proofs.Statements.{inside_line, operands_body, statement_with}
 use Rattle.ds_listing.proofs.Sources.{plain_layout, word_laid, word_added}
 
 -- two hexadecimal digits are read back

@@ -10,7 +10,7 @@ use Rattle.ds_asm.specs.declared.fault.SourceFault.TheVariants.{DoubleLabel}
 use Rattle.ds_asm.specs.Lines.{Line, line_of}
 use Rattle.ds_asm.specs.Assembly.{Labels, Layout, empty_layout, origin, address_of, labelled, sized, with_line, with_lines, line_bytes, bytes_from, lines_of, assembled}
 use Rattle.ds_asm.specs.Faults.{label_in, size_in}
-use Rattle.ds_asm.proofs.AllFaults.{laid_size, line_length}
+use Rattle.ds_asm.proofs.ImageSizes.{laid_size, line_length}
 use Rattle.ds_listing.specs.Listing.{Row, rows_from, rows_of, label_text, value_text, row_text, rows_text, EndsWithLabels}
 use Rattle.ds_listing.proofs.Listings.{drop_seam}
 

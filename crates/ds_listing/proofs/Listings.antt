@@ -7,8 +7,7 @@ use Rattle.ds_word.proofs.ResultBinding.{bind_ok}
 use Rattle.ds_asm.specs.Lines.{Statement, Encoded, WordNumber, WordLabel, Byte, Space, Line, line_of}
 use Rattle.ds_asm.specs.Assembly.{empty_layout, address_of, with_lines, statement_bytes, optional_bytes, line_bytes, bytes_from, lines_of, assembled}
 use Rattle.ds_asm.specs.Faults.{label_in, size_in}
-use Rattle.ds_asm.proofs.ImageSizes.{statement_length}
-use Rattle.ds_asm.proofs.AllFaults.{line_length}
+use Rattle.ds_asm.proofs.ImageSizes.{line_length, statement_length}
 use Rattle.ds_listing.specs.Listing.{IsTold, Row, Shows, row_of, rows_from, rows_of}
 
 -- a line more

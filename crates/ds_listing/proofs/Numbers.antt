@@ -5,7 +5,7 @@ use Rattle.std.proofs.lemmas.Bool.{le-leb, and_parts, and_from, eqb-true, cases_
 use Rattle.std.proofs.lemmas.Fmt.{decimal_by_steps}
 use Rattle.std.proofs.lemmas.List.Folds.{list_all-append}
 use Rattle.ds_word.specs.Digits.{digit_of, digits_from}
-use Rattle.ds_listing.specs.Texts.{hex_digit, hex4, hex8}
+use Rattle.ds_text.specs.Digits.{hex4, hex8, hex_digit}
 
 -- a test at each number below one
 abbrev pub below : (ℕ → Bool) → ℕ → Bool

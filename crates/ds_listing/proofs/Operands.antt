@@ -11,14 +11,25 @@ use Rattle.ds_asm.specs.Characters.{is_blank, trimmed, until, after}
 use Rattle.ds_asm.specs.Numbers.{number_of}
 use Rattle.ds_asm.specs.Operands.{bare, with_value, with_number, with_register, with_signed, with_unsigned, with_indexed, with_operand, with_operands, with_first, before_close, is_link, has_comma}
 use Rattle.ds_asm.specs.RegisterNames.{register_of}
-use Rattle.ds_listing.specs.Texts.{hex4, hex8, register_text, signed_text, unsigned_text, distance_text, operand_text, others_text}
+use Rattle.ds_listing.specs.Texts.{register_text, signed_text, unsigned_text, distance_text, operand_by, others_by}
+use Rattle.ds_text.specs.Digits.{hex4, hex8}
 use Rattle.ds_listing.proofs.Numbers.{decimal_all, hex4_all, hex8_all}
 use Rattle.ds_listing.proofs.Parts.{all_weaker, all_both, is_other, until_seam, until_none, after_some, after_none, seam_there, trimmed_dense}
 use Rattle.ds_listing.proofs.Values.{IsRead, read_signed, read_decimal, read_half, register_read, system_register_read, signed_all, register_all}
 
--- a character that ends no operand, no statement and no line
+-- a character that ends no statement and no line, and is no blank
+abbrev pub is_inside : ℕ → Bool
+is_inside c = not (is_blank c) && (is_other 10 c && (is_other 35 c && is_other 58 c))
+
+-- one that ends no operand either
 abbrev pub is_clear : ℕ → Bool
-is_clear c = not (is_blank c) && (is_other 10 c && (is_other 35 c && (is_other 58 c && is_other 44 c)))
+is_clear c = is_inside c && is_other 44 c
+
+pub inside_dense : (c : ℕ) → is_inside c ≡ true → not (is_blank c) ≡ true
+inside_dense c h = let (a, b) = and_parts (not (is_blank c)) _ h in a
+
+pub clear_inside : (c : ℕ) → is_clear c ≡ true → is_inside c ≡ true
+clear_inside c h = let (a, b) = and_parts (is_inside c) (is_other 44 c) h in a
 
 -- a word with values added in fields
 abbrev pub added : List Field → (Field → ℕ) → ℕ → ℕ
@@ -85,7 +96,7 @@ indexed_by base offset text rest inner front w n a b c d =
     ∙ ap (λ t. with_signed offset t (with_value base n (bare w))) d))
 
 indexed_taken : (base offset : Field) (at : Field → ℕ) (w : ℕ) → Fit at → base.width ≡ 5 → offset.width ≡ 16
-    → with_indexed base offset (operand_text at (Indexed base offset)) (bare w) ≡ Some (bare (added (base ∷ offset ∷ []) at w))
+    → with_indexed base offset (operand_by register_text at (Indexed base offset)) (bare w) ≡ Some (bare (added (base ∷ offset ∷ []) at w))
 indexed_taken base offset at w fit b o =
     let small = fits_width at base 5 fit b in
     let half = fits_width at offset 16 fit o in
@@ -101,7 +112,7 @@ indexed_taken base offset at w fit b o =
     ∙ signed_taken offset (word (w + at base % 2 ^ base.width * 2 ^ base.lo)) (at offset) (signed_text (at offset)) (read_signed (at offset) half) o
 
 -- the text of an operand puts its value into its field
-pub operand_taken : (o : Operand) (at : Field → ℕ) (w : ℕ) → Fit at → is_plain o ≡ true → with_operand o (operand_text at o) (bare w) ≡ Some (bare (added (places o) at w))
+pub operand_taken : (o : Operand) (at : Field → ℕ) (w : ℕ) → Fit at → is_plain o ≡ true → with_operand o (operand_by register_text at o) (bare w) ≡ Some (bare (added (places o) at w))
 unfolding with_operand
 operand_taken (Register f) at w fit h = ap (λ r. with_register f r (bare w)) (register_read (at f) (fits_width at f 5 fit (eqb-true _ _ h)))
 operand_taken (LinkRegister f) at w fit h = ap (λ r. with_register f r (bare w)) (register_read (at f) (fits_width at f 5 fit (eqb-true _ _ h)))
@@ -137,14 +148,10 @@ added-append [] gs at w = refl
 added-append (f ∷ fs) gs at w = added-append fs gs at (word (w + at f % 2 ^ f.width * 2 ^ f.lo))
 
 clear_other : (c : ℕ) → is_clear c ≡ true → is_other 44 c ≡ true
-clear_other c h =
-    let (a, b) = and_parts (not (is_blank c)) _ h in
-    let (a2, b2) = and_parts (is_other 10 c) _ b in
-    let (a3, b3) = and_parts (is_other 35 c) _ b2 in
-    let (a4, b4) = and_parts (is_other 58 c) _ b3 in b4
+clear_other c h = let (a, b) = and_parts (is_inside c) (is_other 44 c) h in b
 
 pub clear_dense : (c : ℕ) → is_clear c ≡ true → not (is_blank c) ≡ true
-clear_dense c h = let (a, b) = and_parts (not (is_blank c)) _ h in a
+clear_dense c h = inside_dense c (clear_inside c h)
 
 -- the text of an operand is clear
 unsigned_clear : (k n : ℕ) → n < 2 ^ 64 → list_all is_clear (unsigned_text k n) ≡ true
@@ -163,7 +170,7 @@ distance_clear m l = elim (cases_Bool (nat_le m 32768)) [
 abbrev pub AreWords : (Field → ℕ) → Type 0
 AreWords at = (f : Field) → at f < 2 ^ 32
 
-pub operand_clear : (o : Operand) (at : Field → ℕ) → AreWords at → list_all is_clear (operand_text at o) ≡ true
+pub operand_clear : (o : Operand) (at : Field → ℕ) → AreWords at → list_all is_clear (operand_by register_text at o) ≡ true
 operand_clear (Register f) at fit = let l = fit f in register_all is_clear refl refl (at f) (omega arith)
 operand_clear (LinkRegister f) at fit = let l = fit f in register_all is_clear refl refl (at f) (omega arith)
 operand_clear (SystemRegister f) at fit = let l = fit f in register_all is_clear refl refl (at f) (omega arith)
@@ -179,11 +186,11 @@ operand_clear (Indexed base offset) at fit =
     (all_both is_clear (register_text (at base)) (41 ∷ []) (register_all is_clear refl refl (at base) (omega arith)) refl)
 
 -- the first operand of a text, where a comma stands after it and where none does
-first_taken : (o : Operand) (at : Field → ℕ) (w : ℕ) (text : List ℕ) (left : Option (List ℕ)) → Fit at → AreWords at → is_plain o ≡ true → until 44 text ≡ operand_text at o → after 44 text ≡ left
+first_taken : (o : Operand) (at : Field → ℕ) (w : ℕ) (text : List ℕ) (left : Option (List ℕ)) → Fit at → AreWords at → is_plain o ≡ true → until 44 text ≡ operand_by register_text at o → after 44 text ≡ left
     → with_first o text (bare w) ≡ Some (left, bare (added (places o) at w))
 first_taken o at w text left fit words h u b =
     ap (λ t. option_map (λ next. (after 44 text, next)) (with_operand o (trimmed t) (bare w))) u
-    ∙ (ap (λ t. option_map (λ next. (after 44 text, next)) (with_operand o t (bare w))) (trimmed_all (operand_text at o) (all_weaker is_clear (λ c. not (is_blank c)) clear_dense (operand_text at o) (operand_clear o at words)))
+    ∙ (ap (λ t. option_map (λ next. (after 44 text, next)) (with_operand o t (bare w))) (trimmed_all (operand_by register_text at o) (all_weaker is_clear (λ c. not (is_blank c)) clear_dense (operand_by register_text at o) (operand_clear o at words)))
     ∙ (ap (option_map (λ next. (after 44 text, next))) (operand_taken o at w fit h)
     ∙ ap (λ t. Some (t, bare (added (places o) at w))) b))
 
@@ -192,24 +199,24 @@ comma_there xs ys h = seam_there 44 xs ys h refl
 
 -- the operands of a text put their values into their fields
 pub operands_taken : (o : Operand) (os : List Operand) (at : Field → ℕ) (w : ℕ) → Fit at → AreWords at → are_plain (o ∷ os) ≡ true
-    → with_operands (o ∷ os) (Some (operand_text at o ++ others_text at os)) (bare w) ≡ Some (bare (added (flat_map places (o ∷ os)) at w))
+    → with_operands (o ∷ os) (Some (operand_by register_text at o ++ others_by register_text at os)) (bare w) ≡ Some (bare (added (flat_map places (o ∷ os)) at w))
 unfolding with_operands
 operands_taken o [] at w fit words h =
     let (a, b) = and_parts (is_plain o) (not (is_link o)) h in
-    let text = operand_text at o ++ [] in
-    let clear : list_all (is_other 44) text ≡ true = all_both (is_other 44) (operand_text at o) [] (all_weaker is_clear (is_other 44) clear_other (operand_text at o) (operand_clear o at words)) refl in
+    let text = operand_by register_text at o ++ [] in
+    let clear : list_all (is_other 44) text ≡ true = all_both (is_other 44) (operand_by register_text at o) [] (all_weaker is_clear (is_other 44) clear_other (operand_by register_text at o) (operand_clear o at words)) refl in
     let link : is_link o && not (has_comma text) ≡ false = and_left (is_link o) _ (not-true (is_link o) b) in
     ap (λ c. (if c then Some (Some text, with_value rd 31 (bare w)) else with_first o text (bare w)) >>= (λ p. with_operands [] p.0 p.1)) link
-    ∙ (ap (λ r. r >>= (λ p. with_operands [] p.0 p.1)) (first_taken o at w text None fit words a (until_none 44 text clear ∙ append-nil (operand_text at o)) (after_none 44 text clear))
+    ∙ (ap (λ r. r >>= (λ p. with_operands [] p.0 p.1)) (first_taken o at w text None fit words a (until_none 44 text clear ∙ append-nil (operand_by register_text at o)) (after_none 44 text clear))
     ∙ ap (λ fs. Some (bare (added fs at w))) (sym (append-nil (places o))))
 operands_taken o (p ∷ os) at w fit words h =
     let (a, b) = and_parts (is_plain o) (are_plain (p ∷ os)) h in
-    let rest = operand_text at p ++ others_text at os in
-    let text = operand_text at o ++ 44 ∷ rest in
-    let clear : list_all (is_other 44) (operand_text at o) ≡ true = all_weaker is_clear (is_other 44) clear_other (operand_text at o) (operand_clear o at words) in
-    let link : is_link o && not (has_comma text) ≡ false = and_right (is_link o) _ (ap not (comma_there (operand_text at o) rest clear)) in
+    let rest = operand_by register_text at p ++ others_by register_text at os in
+    let text = operand_by register_text at o ++ 44 ∷ rest in
+    let clear : list_all (is_other 44) (operand_by register_text at o) ≡ true = all_weaker is_clear (is_other 44) clear_other (operand_by register_text at o) (operand_clear o at words) in
+    let link : is_link o && not (has_comma text) ≡ false = and_right (is_link o) _ (ap not (comma_there (operand_by register_text at o) rest clear)) in
     ap (λ c. (if c then Some (Some text, with_value rd 31 (bare w)) else with_first o text (bare w)) >>= (λ q. with_operands (p ∷ os) q.0 q.1)) link
-    ∙ (ap (λ r. r >>= (λ q. with_operands (p ∷ os) q.0 q.1)) (first_taken o at w text (Some rest) fit words a (until_seam 44 (operand_text at o) rest clear refl) (after_some 44 (operand_text at o) rest clear refl))
+    ∙ (ap (λ r. r >>= (λ q. with_operands (p ∷ os) q.0 q.1)) (first_taken o at w text (Some rest) fit words a (until_seam 44 (operand_by register_text at o) rest clear refl) (after_some 44 (operand_by register_text at o) rest clear refl))
     ∙ (operands_taken p os at (added (places o) at w) fit words b
     ∙ ap (λ v. Some (bare v)) (sym (added-append (places o) (flat_map places (p ∷ os)) at w))))
 

@@ -2,31 +2,20 @@
 use Rattle.std.proofs.Common.{◌≡◌, ◌∙◌, ap, sym, refl, ℕ, ◌%◌, ◌^◌, ◌<◌, Bool, true, false, not, ◌&&◌, bytes_eq, List, [], ◌∷◌, ◌++◌, length, take, drop, Option, Some, None, option_map, Ok, arith, append_assoc}
 use Rattle.std.specs.Prelude.{codes}
 use Rattle.std.specs.List.{list_all, suffix_len}
-use Rattle.std.proofs.lemmas.Bool.{and_parts, and_from, eq-eqb, le-leb, not-true, cond-false}
+use Rattle.std.proofs.lemmas.Bool.{and_parts, eq-eqb, le-leb, not-true, cond-false}
 use Rattle.std.proofs.Math.Seq.{take-append_seam, drop-append_seam, take-length, drop-length}
 use Rattle.ds_word.specs.Bytes.{bytes_of_word}
 use Rattle.ds_asm.specs.Characters.{is_blank, without_front_blanks}
 use Rattle.ds_asm.specs.Operands.{bare}
 use Rattle.ds_asm.specs.Lines.{Encoded, WordNumber, unless_empty, number_word, instruction_named, statement_named, statement_of, line_of}
 use Rattle.ds_asm.specs.Assembly.{is_reserved_word}
-use Rattle.ds_listing.specs.Texts.{hex8, word_text}
+use Rattle.ds_listing.specs.Texts.{word_text}
+use Rattle.ds_text.specs.Digits.{hex8}
 use Rattle.ds_listing.specs.Laws.{alone, IsWord, Says}
 use Rattle.ds_listing.proofs.Numbers.{hex8_all}
 use Rattle.ds_listing.proofs.Parts.{all_weaker, all_both, is_other, stops, passes, no_back_blanks, IsBody, body_line, commented_line}
 use Rattle.ds_listing.proofs.Values.{number_word as number_word_read}
-use Rattle.ds_listing.proofs.Operands.{is_clear}
-
--- a character that ends no statement and no line, and is no blank
-abbrev pub is_inside : ℕ → Bool
-is_inside c = not (is_blank c) && (is_other 10 c && (is_other 35 c && is_other 58 c))
-
-pub clear_inside : (c : ℕ) → is_clear c ≡ true → is_inside c ≡ true
-clear_inside c h =
-    let (a, b) = and_parts (not (is_blank c)) _ h in
-    let (a2, b2) = and_parts (is_other 10 c) _ b in
-    let (a3, b3) = and_parts (is_other 35 c) _ b2 in
-    let (a4, b4) = and_parts (is_other 58 c) _ b3 in
-    and_from _ _ a (and_from _ _ a2 (and_from _ _ a3 a4))
+use Rattle.ds_listing.proofs.Operands.{is_clear, is_inside, inside_dense}
 
 pub inside_line : (c : ℕ) → is_inside c ≡ true → is_other 10 c ≡ true
 inside_line c h =
@@ -44,9 +33,6 @@ inside_label c h =
     let (a, b) = and_parts (not (is_blank c)) _ h in
     let (a2, b2) = and_parts (is_other 10 c) _ b in
     let (a3, b3) = and_parts (is_other 35 c) _ b2 in b3
-
-inside_dense : (c : ℕ) → is_inside c ≡ true → not (is_blank c) ≡ true
-inside_dense c h = let (a, b) = and_parts (not (is_blank c)) _ h in a
 
 -- the first of such characters is no blank
 inside_front : (c : ℕ) (cs : List ℕ) → list_all is_inside (c ∷ cs) ≡ true → is_blank c ≡ false

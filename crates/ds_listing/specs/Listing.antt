@@ -6,7 +6,7 @@ use Rattle.ds_asm.specs.declared.fault.SourceFault.{SourceFault}
 use Rattle.ds_asm.specs.Lines.{line_of}
 use Rattle.ds_asm.specs.Assembly.{Labels, origin, lines_of, assembled}
 use Rattle.ds_asm.specs.Faults.{label_in, size_in}
-use Rattle.ds_listing.specs.Texts.{hex2, hex8}
+use Rattle.ds_text.specs.Digits.{hex2, hex8}
 
 -- a line: its number, where it stands in the image, its bytes there, its label and its text
 pub record Row : Type 0 where

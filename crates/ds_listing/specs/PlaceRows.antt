@@ -7,7 +7,8 @@ use Rattle.ds_listing.specs.Listing.{rows_of}
 use Rattle.ds_listing.specs.NamedTexts.{file_as, text_as}
 use Rattle.ds_listing.specs.Pages.{PagePlaces, place_at}
 use Rattle.ds_listing.specs.Places.{LinePlace, line_at, place_text, places_of}
-use Rattle.ds_listing.specs.Texts.{form_of, hex4, hex8, is_label}
+use Rattle.ds_listing.specs.Texts.{form_of, is_label}
+use Rattle.ds_text.specs.Digits.{hex4, hex8}
 
 -- the lines of a source of twelve bytes, with two labels at one place
 abbrev lines : List LinePlace

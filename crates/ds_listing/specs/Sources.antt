@@ -1,7 +1,8 @@
 -- The source of bytes, and of a file.
 use Rattle.std.specs.Prelude.{codes, ℕ, ◌+◌, ◌*◌, ◌^◌, ◌==◌, if◌then◌else◌, List, [], ◌∷◌, ◌++◌}
 use Rattle.std.specs.List.{flat_map, starts_with}
-use Rattle.ds_listing.specs.Texts.{hex2, text_of}
+use Rattle.ds_listing.specs.Texts.{text_of}
+use Rattle.ds_text.specs.Digits.{hex2}
 
 -- the word of four bytes, the lowest first
 abbrev pub word_of_bytes : ℕ → ℕ → ℕ → ℕ → ℕ
@@ -19,10 +20,14 @@ byte_line b = byte_text b ++ 10 ∷ []
 abbrev pub byte_lines : List ℕ → List ℕ
 byte_lines bytes = flat_map byte_line bytes
 
--- the text of bytes: a line for the word of each four, and for each byte that is left a line of its own
+-- a line for the word of each four bytes, by the texts of words, and for each byte that is left a line of its own
+abbrev pub lines_by : (ℕ → List ℕ) → List ℕ → List ℕ
+lines_by text (a ∷ b ∷ c ∷ d ∷ bytes) = text (word_of_bytes a b c d) ++ 10 ∷ lines_by text bytes
+lines_by text bytes = byte_lines bytes
+
+-- the text of bytes
 abbrev pub source_of_bytes : List ℕ → List ℕ
-source_of_bytes (a ∷ b ∷ c ∷ d ∷ bytes) = text_of (word_of_bytes a b c d) ++ 10 ∷ source_of_bytes bytes
-source_of_bytes bytes = byte_lines bytes
+source_of_bytes bytes = lines_by text_of bytes
 
 -- the bytes with which an ELF file begins
 abbrev pub elf_magic : List ℕ

@@ -1,25 +1,10 @@
 -- The text of a word, as the assembler reads it.
-use Rattle.std.specs.Prelude.{codes, decimal, ℕ, ◌+◌, ◌-◌, ◌*◌, ◌/◌, ◌%◌, Bool, true, false, ◌==◌, nat_le, nat_lt, if◌then◌else◌, List, [], ◌∷◌, ◌++◌, Option, Some, None}
+use Rattle.std.specs.Prelude.{codes, decimal, ℕ, ◌+◌, ◌-◌, ◌*◌, ◌%◌, Bool, true, false, ◌==◌, nat_le, nat_lt, if◌then◌else◌, List, [], ◌∷◌, ◌++◌, Option, Some, None}
 use Rattle.std.specs.List.{flat_map, list_any}
+use Rattle.ds_text.specs.Digits.{hex4, hex8}
 use Rattle.ds_isa.specs.Fields.{Field, in_word, Operand, Register, LinkRegister, SystemRegister, Number, Code, Signed, Branch, Jump, Indexed}
 use Rattle.ds_isa.specs.Encoding.{Entry, InRow, OfCoprocessor, OfNone}
 use Rattle.ds_isa.specs.Instruction.{by_rows, rows}
-
--- the hexadecimal digit of a number below 16
-abbrev pub hex_digit : ℕ → ℕ
-hex_digit n = if nat_lt n 10 then 48 + n else 55 + n
-
--- the two hexadecimal digits of a byte
-abbrev pub hex2 : ℕ → List ℕ
-hex2 b = hex_digit (b / 16) ∷ hex_digit (b % 16) ∷ []
-
--- the four hexadecimal digits of a half
-unfoldable pub hex4 : ℕ → List ℕ
-hex4 n = hex_digit (n / 4096 % 16) ∷ hex_digit (n / 256 % 16) ∷ hex_digit (n / 16 % 16) ∷ hex_digit (n % 16) ∷ []
-
--- the eight hexadecimal digits of a word
-unfoldable pub hex8 : ℕ → List ℕ
-hex8 n = hex4 (n / 65536) ++ hex4 (n % 65536)
 
 -- a register, by its number
 abbrev pub register_text : ℕ → List ℕ
@@ -37,26 +22,26 @@ unsigned_text width n = if width == 16 then codes "0x" ++ hex4 n else decimal n
 abbrev pub distance_text : ℕ → List ℕ
 distance_text m = if nat_le m 32768 then codes ".+" ++ decimal (4 * m) else codes ".-" ++ decimal (4 * (65536 - m))
 
--- an operand, by the values of the fields of its word
-abbrev pub operand_text : (Field → ℕ) → Operand → List ℕ
-operand_text at (Register f) = register_text (at f)
-operand_text at (LinkRegister f) = register_text (at f)
-operand_text at (SystemRegister f) = register_text (at f)
-operand_text at (Number f) = unsigned_text f.width (at f)
-operand_text at (Code f) = decimal (at f)
-operand_text at (Signed f) = signed_text (at f)
-operand_text at (Branch f) = distance_text ((at f + 1) % 65536)
-operand_text at (Jump f) = codes "0x" ++ hex8 (4 * at f)
-operand_text at (Indexed base offset) = signed_text (at offset) ++ (40 ∷ register_text (at base) ++ 41 ∷ [])
+-- an operand, by the values of the fields of its word and the texts of registers; a register of the system coprocessor has its number only
+abbrev pub operand_by : (ℕ → List ℕ) → (Field → ℕ) → Operand → List ℕ
+operand_by register at (Register f) = register (at f)
+operand_by register at (LinkRegister f) = register (at f)
+operand_by register at (SystemRegister f) = register_text (at f)
+operand_by register at (Number f) = unsigned_text f.width (at f)
+operand_by register at (Code f) = decimal (at f)
+operand_by register at (Signed f) = signed_text (at f)
+operand_by register at (Branch f) = distance_text ((at f + 1) % 65536)
+operand_by register at (Jump f) = codes "0x" ++ hex8 (4 * at f)
+operand_by register at (Indexed base offset) = signed_text (at offset) ++ (40 ∷ register (at base) ++ 41 ∷ [])
 
 -- operands, each after a comma
-abbrev pub others_text : (Field → ℕ) → List Operand → List ℕ
-others_text at os = flat_map (λ o. 44 ∷ operand_text at o) os
+abbrev pub others_by : (ℕ → List ℕ) → (Field → ℕ) → List Operand → List ℕ
+others_by register at os = flat_map (λ o. 44 ∷ operand_by register at o) os
 
 -- operands after a blank, with commas between them
-abbrev pub operands_text : (Field → ℕ) → List Operand → List ℕ
-operands_text at [] = []
-operands_text at (o ∷ os) = 32 ∷ operand_text at o ++ others_text at os
+abbrev pub operands_by : (ℕ → List ℕ) → (Field → ℕ) → List Operand → List ℕ
+operands_by register at [] = []
+operands_by register at (o ∷ os) = 32 ∷ operand_by register at o ++ others_by register at os
 
 -- whether the only operand is a code that is 0, which is left out
 abbrev pub is_left_out : (Field → ℕ) → List Operand → Bool
@@ -69,8 +54,8 @@ pub record Form : Type 0 where
   pub operands : List Operand
 
 -- an instruction with its operands
-abbrev pub instruction_text : (Field → ℕ) → Form → List ℕ
-instruction_text at f = f.name ++ (if is_left_out at f.operands then [] else operands_text at f.operands)
+abbrev pub instruction_by : (ℕ → List ℕ) → (Field → ℕ) → Form → List ℕ
+instruction_by register at f = f.name ++ (if is_left_out at f.operands then [] else operands_by register at f.operands)
 
 -- a word by its number alone
 abbrev pub word_text : ℕ → List ℕ
@@ -87,8 +72,9 @@ abbrev pub has_label : List Operand → Bool
 has_label os = list_any is_label os
 
 -- an instruction; where it goes to a label its word, with the instruction as a comment
-abbrev pub form_text : ℕ → Form → List ℕ
-form_text w f = if has_label f.operands then word_text w ++ (codes " # " ++ instruction_text (in_word w) f) else instruction_text (in_word w) f
+abbrev pub form_by : (ℕ → List ℕ) → ℕ → Form → List ℕ
+form_by register w f =
+    if has_label f.operands then word_text w ++ (codes " # " ++ instruction_by register (in_word w) f) else instruction_by register (in_word w) f
 
 -- the form of an entry of the table, if it is a row
 abbrev pub form_in : Entry → Option Form
@@ -101,13 +87,13 @@ unfoldable pub form_of : ℕ → Option Form
 form_of w = by_rows (λ row at. Some (record { name = row.name; operands = row.operands })) (λ w. None) rows w
 
 -- the text of a word by its form, or by its number where it has none
-abbrev pub text_by : ℕ → Option Form → List ℕ
-text_by w None = word_text w
-text_by w (Some f) = form_text w f
+abbrev pub word_by : (ℕ → List ℕ) → ℕ → Option Form → List ℕ
+word_by register w None = word_text w
+word_by register w (Some f) = form_by register w f
 
--- the text of a word
+-- the text of a word, with registers by their numbers
 unfoldable pub text_of : ℕ → List ℕ
-text_of w = if w == 0 then codes "nop" else text_by w (form_of w)
+text_of w = if w == 0 then codes "nop" else word_by register_text w (form_of w)
 
 -- the text of words, a line for each
 abbrev pub source_of : List ℕ → List ℕ

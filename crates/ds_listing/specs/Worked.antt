@@ -1,7 +1,8 @@
 -- Worked texts of words.
 use Rattle.std.specs.Prelude.{codes, refl, ◌≡◌, ℕ, List, [], ◌∷◌}
 use Rattle.std.specs.Fmt.{digits}
-use Rattle.ds_listing.specs.Texts.{hex4, hex8, is_label, form_of, text_of, source_of}
+use Rattle.ds_listing.specs.Texts.{is_label, form_of, text_of, source_of}
+use Rattle.ds_text.specs.Digits.{hex4, hex8}
 use Rattle.ds_listing.specs.Sources.{source_of_bytes, source_of_file}
 
 -- The nine words of the refill handler (Kane and Heinrich, chapter 6).

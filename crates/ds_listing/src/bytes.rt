@@ -7,10 +7,10 @@ ghost use Rattle.ds_listing.specs.Laws.{AreSaid};
 ghost use Rattle.ds_listing.specs.NamedTexts.{bytes_as, file_as};
 ghost use Rattle.ds_listing.specs.Sources.{byte_line, byte_lines, elf_comment, source_of_file, word_of_bytes};
 
-use crate::digits::push_byte;
 use crate::law::a_word_is_read_back;
 use crate::line::push_word_as;
 use crate::names::RegisterNames;
+use ds_text::string::push_byte;
 use std::alloc::{AllocError, Global};
 
 /// The bytes with which an ELF file begins.

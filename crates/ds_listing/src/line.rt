@@ -3,15 +3,15 @@ ghost use Rattle.std.specs.Prelude.{◌≡◌, ◌++◌, OnOk};
 ghost use Rattle.std.specs.String.{string_bytes};
 ghost use Rattle.ds_isa.specs.Fields.{in_word};
 ghost use Rattle.ds_listing.specs.Laws.{IsLineOf};
-ghost use Rattle.ds_listing.specs.NamedTexts.{form_as, instruction_as, text_as};
+ghost use Rattle.ds_listing.specs.NamedTexts.{register_as, text_as};
 ghost use Rattle.ds_listing.specs.Plain.{plain_form};
-ghost use Rattle.ds_listing.specs.Texts.{text_of, word_text};
+ghost use Rattle.ds_listing.specs.Texts.{form_by, instruction_by, text_of, word_text};
 
-use crate::digits::push_hex;
 use crate::form::{Form, form_of};
 use crate::law::a_word_is_read_back;
 use crate::names::RegisterNames;
 use crate::operand::{has_label, is_left_out, push_operands};
+use ds_text::string::push_hex;
 use std::alloc::AllocError;
 
 /// Adds the text of a word: its instruction as the assembler reads it, or its number after `.word`
@@ -50,7 +50,7 @@ fn push_form(
     names: RegisterNames,
 ) -> Result<(), AllocError>
     ensures { OnOk result (string_bytes text.new
-        ≡ string_bytes text.old ++ form_as names word (plain_form form.now)) }
+        ≡ string_bytes text.old ++ form_by (register_as names) word (plain_form form.now)) }
 {
     if has_label(form.operands) {
         push_number(text, word)?;
@@ -73,7 +73,7 @@ fn push_instruction(
     names: RegisterNames,
 ) -> Result<(), AllocError>
     ensures { OnOk result (string_bytes text.new
-        ≡ string_bytes text.old ++ instruction_as names (in_word word) (plain_form form.now)) }
+        ≡ string_bytes text.old ++ instruction_by (register_as names) (in_word word) (plain_form form.now)) }
 {
     text.push_str(form.name)?;
     if is_left_out(form.operands, word) {

@@ -3,7 +3,7 @@ ghost use Rattle.std.specs.Prelude.{◌≡◌, ◌++◌, [], OnOk, map, slice_ge
 ghost use Rattle.std.specs.String.{string_bytes};
 ghost use Rattle.ds_listing.specs.NamedTexts.{common_name, register_as};
 
-use crate::digits::push_decimal;
+use ds_text::string::push_decimal;
 use std::alloc::AllocError;
 
 /// How registers are called in the text of an instruction.
@@ -46,7 +46,7 @@ pub fn push_register(text: &mut String, number: u8, names: RegisterNames) -> Res
 {
     text.push('$')?;
     match names {
-        RegisterNames::Numbers => push_decimal(text, u32::from(number)),
+        RegisterNames::Numbers => push_decimal(text, u64::from(number)),
         RegisterNames::Common => text.push_str(common_name(number)),
     }
 }

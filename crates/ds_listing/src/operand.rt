@@ -3,12 +3,13 @@ ghost use Rattle.std.specs.Prelude.{◌≡◌, ◌++◌, OnOk, map};
 ghost use Rattle.std.specs.List.{list_any};
 ghost use Rattle.std.specs.String.{string_bytes};
 ghost use Rattle.ds_isa.specs.Fields.{in_word};
-ghost use Rattle.ds_listing.specs.NamedTexts.{operand_as, operands_as, others_as};
+ghost use Rattle.ds_listing.specs.NamedTexts.{register_as};
 ghost use Rattle.ds_listing.specs.Plain.{operand_of};
-ghost use Rattle.ds_listing.specs.Texts.{is_left_out, is_label, has_label};
+ghost use Rattle.ds_listing.specs.Texts.{operand_by, operands_by, others_by, is_left_out, is_label, has_label};
 
-use crate::digits::{push_decimal, push_distance, push_half, push_hex, push_signed};
+use crate::digits::{push_distance, push_signed};
 use crate::names::{RegisterNames, push_register};
+use ds_text::string::{push_decimal, push_half, push_hex};
 use std::alloc::AllocError;
 
 /// What stands in an operand's place.
@@ -47,19 +48,19 @@ impl Operand {
     /// Adds what a word has in its place, with registers called by these names.
     fn push(self, text: &mut String, word: u32, names: RegisterNames) -> Result<(), AllocError>
         ensures { OnOk result (string_bytes text.new
-            ≡ string_bytes text.old ++ operand_as names (in_word word) (operand_of self)) }
+            ≡ string_bytes text.old ++ operand_by (register_as names) (in_word word) (operand_of self)) }
     {
         match self {
             Operand::Rs => push_register(text, ds_word::rs(word), names),
             Operand::Rt => push_register(text, ds_word::rt(word), names),
             Operand::Rd | Operand::Link => push_register(text, ds_word::rd(word), names),
             Operand::System => push_register(text, ds_word::rd(word), RegisterNames::Numbers),
-            Operand::Shamt => push_decimal(text, u32::from(ds_word::shamt(word))),
+            Operand::Shamt => push_decimal(text, u64::from(ds_word::shamt(word))),
             Operand::Unsigned => {
                 text.push_str("0x")?;
                 push_half(text, u32::from(ds_word::imm(word)))
             }
-            Operand::Code => push_decimal(text, ds_word::code(word)),
+            Operand::Code => push_decimal(text, u64::from(ds_word::code(word))),
             Operand::Signed => push_signed(text, ds_word::imm(word)),
             Operand::Branch => push_distance(text, ds_word::imm(word)),
             Operand::Jump => {
@@ -107,7 +108,7 @@ pub(crate) fn push_operands(
     names: RegisterNames,
 ) -> Result<(), AllocError>
     ensures { OnOk result (string_bytes text.new ≡ string_bytes text.old
-        ++ operands_as names (in_word word) (map operand_of operands.now)) }
+        ++ operands_by (register_as names) (in_word word) (map operand_of operands.now)) }
 {
     match operands {
         [] => Ok(()),
@@ -126,7 +127,7 @@ fn push_others(
     names: RegisterNames,
 ) -> Result<(), AllocError>
     ensures { OnOk result (string_bytes text.new ≡ string_bytes text.old
-        ++ others_as names (in_word word) (map operand_of operands.now)) }
+        ++ others_by (register_as names) (in_word word) (map operand_of operands.now)) }
 {
     for operand in operands {
         text.push(',')?;

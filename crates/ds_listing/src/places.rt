@@ -4,7 +4,7 @@ ghost use Rattle.ds_listing.specs.Listing.{rows_of};
 ghost use Rattle.ds_listing.specs.Places.{label_behind, label_over, label_text, line_at, offset_text, place_text, places_of, plain_label, plain_place};
 
 use ds_asm::{Image, first_line, source_line};
-use itoa::Buffer;
+use ds_text::sheet::push_decimal;
 use std::alloc::{AllocError, Global};
 
 /// A label of a source.
@@ -137,7 +137,7 @@ fn push_offset(text: &mut Vec<u8>, offset: u32) -> Result<(), AllocError>
         return Ok(());
     }
     text.extend_from_slice(b"+")?;
-    text.extend_from_slice(Buffer::new().format(offset).as_bytes())
+    push_decimal(text, u64::from(offset))
 }
 
 /// Adds a label with the offset of a byte, where there is one.
@@ -170,7 +170,7 @@ pub fn push_place<'a>(
         Some(line) => {
             text.extend_from_slice(source.as_bytes())?;
             text.extend_from_slice(b":")?;
-            text.extend_from_slice(Buffer::new().format(line.number).as_bytes())?;
+            push_decimal(text, line.number)?;
             push_label(text, byte, line.label)
         }
         None => Ok(()),

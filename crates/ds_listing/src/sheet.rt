@@ -3,10 +3,10 @@ ghost use Rattle.std.specs.Prelude.{◌≡◌, ◌+◌, ◌<◌, ◌≤◌, ◌+
 ghost use Rattle.ds_asm.specs.Assembly.{origin};
 ghost use Rattle.ds_listing.specs.Listing.{address_text, behind_number, bytes_text, label_text, blanks_before, row_text, shown_text};
 ghost use Rattle.ds_listing.specs.Plain.{plain_row};
-ghost use Rattle.ds_listing.specs.Texts.{hex2};
+ghost use Rattle.ds_text.specs.Digits.{hex2};
 
-use crate::digits::hex_digit;
 use ds_asm::ORIGIN;
+use ds_text::sheet::{push_byte, push_hex};
 use itoa::Buffer;
 use std::alloc::AllocError;
 
@@ -129,42 +129,12 @@ fn push_bytes(sheet: &mut Vec<u8>, bytes: &[u8]) -> Result<(), AllocError>
     }
 }
 
-/// Adds the two hexadecimal digits of a byte.
-fn push_byte(sheet: &mut Vec<u8>, byte: u8) -> Result<(), AllocError>
-    ensures { OnOk result (sheet.new.items ≡ sheet.old.items ++ hex2 byte) }
-{
-    sheet.push(hex_digit(u32::from(byte / 16)))?;
-    sheet.push(hex_digit(u32::from(byte % 16)))?;
-    Ok(())
-}
-
 /// Adds the address of a place of the image.
 fn push_address(sheet: &mut Vec<u8>, place: u32) -> Result<(), AllocError>
     requires { place ≤ 65536 }
     ensures { OnOk result (sheet.new.items ≡ sheet.old.items ++ address_text place) }
 {
-    sheet.extend_from_slice(&address_digits(place))
-}
-
-/// The eight hexadecimal digits of the address of a place of the image.
-#[tactic(auto, unfolding(crate::specs::Texts::hex4, crate::specs::Texts::hex8))]
-fn address_digits(place: u32) -> [u8; 8]
-    requires { place ≤ 65536 }
-    ensures { result ≡ address_text place }
-{
-    let address = ORIGIN + place;
-    let high = address / 0x1_0000;
-    let low = address % 0x1_0000;
-    [
-        hex_digit(high / 0x1000 % 16),
-        hex_digit(high / 0x100 % 16),
-        hex_digit(high / 0x10 % 16),
-        hex_digit(high % 16),
-        hex_digit(low / 0x1000 % 16),
-        hex_digit(low / 0x100 % 16),
-        hex_digit(low / 0x10 % 16),
-        hex_digit(low % 16),
-    ]
+    push_hex(sheet, ORIGIN + place)
 }
 
 #[tactic(auto, using(crate::proofs::Blanks::some_blanks))]

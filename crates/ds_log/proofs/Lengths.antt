@@ -1,6 +1,7 @@
 -- A line fits in the 64 bytes that are reserved for it.
 use Rattle.std.proofs.Common.{◌≤◌, length, arith, length-append}
 use Rattle.std.proofs.lemmas.Fmt.{length-decimal-le, length-decimal-le_wide}
+use Rattle.ds_text.proofs.Lengths.{length-hex8}
 use Rattle.ds_policy.specs.declared.access.Rule.{Rule}
 use Rattle.ds_policy.specs.declared.access.Rule.TheVariants.{Number, K, A, I}
 use Rattle.ds_log.specs.declared.line.Line.{Line}
@@ -31,7 +32,9 @@ length-line_text-le (Denial time process pc kind addr rule code) short =
     let k = length-kind_text-le kind in
     let r = length-rule_text-le rule short.2 in
     let d = length-decimal-le 5 code (omega arith) short.3 (omega arith) in
-    simp length-append (omega (arith, t, p, k, r, d))
+    let w = length-hex8 pc in
+    let a = length-hex8 addr in
+    simp length-append (omega (arith, t, p, k, r, d, w, a))
 length-line_text-le (Refused time command number) short =
     let t = length-decimal-le_wide 20 time (omega arith) short.0 (omega arith) in
     let c = length-decimal-le 10 command (omega arith) short.1 (omega arith) in

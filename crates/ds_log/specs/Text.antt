@@ -1,24 +1,12 @@
 -- The text of a line of the log.
 use Rattle.std.specs.Prelude.{ℕ, zero, suc, ◌+◌, ◌/◌, ◌%◌, nat_lt, if◌then◌else◌, List, [], ◌∷◌, ◌++◌, decimal, codes}
+use Rattle.ds_text.specs.Digits.{hex8}
 use Rattle.ds_policy.specs.declared.access.Rule.{Rule}
 use Rattle.ds_policy.specs.declared.access.Rule.TheVariants.{Number, K, A, I}
 use Rattle.ds_log.specs.declared.line.Line.{Line}
 use Rattle.ds_log.specs.declared.line.Line.TheVariants.{Denial, Refused}
 use Rattle.ds_log.specs.declared.line.Denied.{Denied}
 use Rattle.ds_log.specs.declared.line.Denied.TheVariants as denied
-
--- the upper-case hexadecimal digit of n below 16
-abbrev pub hex_digit : ℕ → ℕ
-hex_digit n = if nat_lt n 10 then 48 + n else 55 + n
-
--- so many upper-case hexadecimal digits
-abbrev pub hex_digits : ℕ → ℕ → List ℕ
-hex_digits zero n = []
-hex_digits (suc k) n = hex_digits k (n / 16) ++ hex_digit (n % 16) ∷ []
-
--- eight hexadecimal digits
-abbrev pub hex8 : ℕ → List ℕ
-hex8 n = hex_digits 8 n
 
 -- the word for what was denied
 abbrev pub kind_text : Denied → List ℕ

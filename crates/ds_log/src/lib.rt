@@ -1,7 +1,6 @@
 //! The log: its lines, and their text; and the text of a state, as it goes to a writer.
 #![tactic(auto)]
 
-mod digits;
 mod line;
 mod report;
 mod text;

@@ -4,10 +4,10 @@ ghost use Rattle.std.specs.Prelude.{◌≡◌, ℕ, ◌+◌, ◌^◌, ◌<◌, �
 ghost use Rattle.ds_log.specs.Length.{IsShort};
 ghost use Rattle.ds_log.specs.Text.{line_text, kind_text, rule_text};
 
-use crate::digits::hex8;
 use crate::line::{Denied, Line};
 use arrayvec::ArrayVec;
 use ds_policy::{OutOfMemory, Rule};
+use ds_text::hex8;
 use itoa::Buffer;
 
 /// Appends a line's text with its line feed, or nothing where memory runs out.

@@ -1,6 +1,6 @@
 -- Texts of a few pieces.
 use Rattle.std.proofs.Common.{◌≡◌, ◌≢◌, ◌∙◌, refl, ap, ℕ, suc, ◌+◌, Bool, true, List, [], ◌∷◌, ◌++◌, append-nil, codes, decimal, length, length-append, arith}
-use Rattle.ds_listing.specs.Texts.{hex8}
+use Rattle.ds_text.specs.Digits.{hex8}
 use Rattle.ds_policy.specs.declared.grant.Entry.{Entry}
 use Rattle.ds_log_reasons.specs.Sentences.{Placed, alone_text, at_text, command_text, mend_line, near_text, number_text, or_address, slot_text}
 

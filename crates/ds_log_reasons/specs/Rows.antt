@@ -5,7 +5,8 @@ use Rattle.ds_word.specs.Digits.{digits_from}
 use Rattle.ds_asm.specs.OnLiterals.{asm_on_literals}
 use Rattle.ds_listing.specs.Listing.{rows_of}
 use Rattle.ds_listing.specs.Places.{places_of}
-use Rattle.ds_listing.specs.Texts.{form_of, hex4, hex8, is_label, text_of}
+use Rattle.ds_listing.specs.Texts.{form_of, is_label, text_of}
+use Rattle.ds_text.specs.Digits.{hex4, hex8}
 use Rattle.ds_log.specs.declared.line.Line.TheVariants as line
 use Rattle.ds_log.specs.declared.line.Denied.{Denied}
 use Rattle.ds_log.specs.declared.line.Denied.TheVariants as denied

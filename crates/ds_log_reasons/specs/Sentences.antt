@@ -5,7 +5,8 @@ use Rattle.ds_isa.specs.Shapes.{is_branch}
 use Rattle.ds_isa.specs.Uses.{uses}
 use Rattle.ds_isa.specs.declared.instr.Late.{Late}
 use Rattle.ds_listing.specs.Pages.{PagePlaces, place_at, plain_pages}
-use Rattle.ds_listing.specs.Texts.{hex8, text_of}
+use Rattle.ds_listing.specs.Texts.{text_of}
+use Rattle.ds_text.specs.Digits.{hex8}
 use Rattle.ds_policy.specs.declared.access.Rule.{Rule}
 use Rattle.ds_policy.specs.declared.access.Rule.TheVariants.{Number, K, A, I}
 use Rattle.ds_policy.specs.declared.grant.Entry.{Entry}

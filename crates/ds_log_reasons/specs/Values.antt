@@ -4,7 +4,7 @@ use Rattle.ds_isa.specs.declared.instr.Instr.{Instr}
 use Rattle.ds_isa.specs.declared.instr.Instr.TheVariants as instr
 use Rattle.ds_isa.specs.declared.instr.Late.{Late}
 use Rattle.ds_isa.specs.Registers.{late_or}
-use Rattle.ds_listing.specs.Texts.{hex8}
+use Rattle.ds_text.specs.Digits.{hex8}
 use Rattle.ds_log.specs.declared.line.Denied.{Denied}
 use Rattle.ds_log.specs.declared.line.Denied.TheVariants as denied
 use Rattle.ds_log_reasons.specs.declared.values.Operands.{Operands}

@@ -2,7 +2,6 @@
 //! command, by what a process had at that time.
 #![tactic(auto)]
 
-mod digits;
 mod entries;
 mod lines;
 mod places;

@@ -5,7 +5,6 @@ ghost use Rattle.ds_listing.specs.Pages.{place_at, plain_pages};
 ghost use Rattle.ds_listing.specs.Texts.{text_of};
 ghost use Rattle.ds_log_reasons.specs.Sentences.{alone_text, at_text, by_text, command_text, decided_text, denial_text, did_text, giver_text, granted_page, known_placed, line_text, meaning_line, mend_line, name_text, near_text, nearest_by, nearest_text, number_text, or_address, page_text, process_text, reason_for, refused_text, rule_line, rule_text, said_of, sighted, slot_text, what_text, word_branch};
 
-use crate::digits::{push_decimal, push_hex};
 use crate::entries::{grant_at, nearest};
 use crate::reason::{Reason, reason_of};
 use crate::values::{operands_for, push_values};
@@ -15,6 +14,7 @@ use ds_isa::{Late, decode, is_branch};
 use ds_listing::{PageLines, push_address_place, push_word};
 use ds_log::Denied;
 use ds_policy::{Entry, Grant, Policy, PolicyPage, PolicyRule, Rule};
+use ds_text::sheet::{push_decimal, push_hex};
 use std::alloc::{AllocError, Global};
 
 /// What the words for a line of the log are taken from.

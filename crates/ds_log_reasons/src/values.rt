@@ -2,9 +2,9 @@
 ghost use Rattle.std.specs.Prelude.{◌≡◌, ◌++◌, ◌%◌, ◌==◌, OnOk, None, slice_index};
 ghost use Rattle.ds_log_reasons.specs.Values.{held, is_late, late_text, operands_for, operands_of, reads, value_text, values_text};
 
-use crate::digits::{push_decimal, push_hex};
 use ds_isa::{Instr, Late};
 use ds_log::Denied;
+use ds_text::sheet::{push_decimal, push_hex};
 use std::alloc::AllocError;
 
 /// What an instruction takes its address from, or what it adds or subtracts.

@@ -10,6 +10,7 @@ use Rattle.ds_policy.specs.declared.command.Command.TheVariants as command
 use Rattle.ds_policy.specs.declared.command.TimedCommand.{TimedCommand}
 use Rattle.ds_policy.specs.declared.command.Character.{Character}
 use Rattle.ds_policy.specs.Value.{PolicyValue}
+use Rattle.ds_word.specs.Digits.{digits_from}
 use Rattle.ds_policy.specs.InputLines.{timed_event_of}
 use Rattle.ds_policy.specs.InputText.{with_line as with_input_line, with_lines}
 use Rattle.ds_asm.specs.Images.{part_of}
@@ -334,7 +335,7 @@ unfolding inputs_under images_from asm_on_literals
 a_source_is_refused_before_the_input = refl
 
 pub the_input_is_refused_before_the_ticks : under (good "one.s" ∷ []) "?" 1000000001 7 ≡ Err (InputFault 1)
-unfolding inputs_under images_from asm_on_literals with_lines with_input_line timed_event_of
+unfolding inputs_under images_from asm_on_literals digits_from with_lines with_input_line timed_event_of
 the_input_is_refused_before_the_ticks = refl
 
 pub the_ticks_are_refused_before_random : under (good "one.s" ∷ []) "" 1000000001 7 ≡ Err (Limit (codes "n"))

@@ -10,17 +10,14 @@ use Rattle.ds_policy.specs.declared.policy.PolicyProcess.{PolicyProcess}
 use Rattle.ds_policy.specs.declared.policy.PolicyRule.{PolicyRule}
 use Rattle.ds_policy.specs.Value.{PolicyValue, InputValue}
 use Rattle.ds_policy.specs.Refusal.{PolicyRefusal, bad_toml, limit, bad_rule}
-use Rattle.ds_policy.specs.Refusal as reading
-use Rattle.ds_policy.specs.Document.{document}
 use Rattle.ds_policy.specs.Pages.{Table, entries_of, put}
 use Rattle.ds_policy.specs.FirstTable.{with_rule, with_rules, granted_by}
-use Rattle.ds_policy.specs.PolicyFacts.{IsGoodProcess, IsGoodPolicy}
+use Rattle.ds_policy.specs.PolicyFacts.{IsGoodProcess}
 use Rattle.ds_policy.specs.PolicyParts.{sources_of}
-use Rattle.ds_policy.specs.PolicyText.{policy_of, says}
-use Rattle.ds_policy.specs.InputFacts.{IsGoodInput}
-use Rattle.ds_policy.specs.InputText.{Said, input_of, input_in, as_input, with_lines, nothing_said, lines_of}
-use Rattle.ds_policy.proofs.PolicyRead.{says_good}
-use Rattle.ds_policy.proofs.GoodInput.{good_input}
+use Rattle.ds_policy.specs.PolicyText.{policy_of}
+use Rattle.ds_policy.specs.InputText.{input_of}
+use Rattle.ds_policy.proofs.PolicyRead.{policy_good}
+use Rattle.ds_policy.proofs.GoodInput.{input_good}
 use Rattle.ds_pagemap.specs.Machine.{State, no_process}
 use Rattle.ds_pagemap.specs.First.{first_process, first_state, numbers}
 use Rattle.ds_pagemap.specs.Inputs.{Refusal, Sources, Limit, BadRandom, check, policy_read, input_read, images_from, inputs, inputs_by, inputs_under_by}
@@ -133,31 +130,16 @@ pub made_further : (f : State → State) (text : List ℕ) (sources : Sources) (
 unfolding inputs
 made_further f text sources input n random = made_alike State State f first_state text sources input n random
 
-text_good : (text : List ℕ) (p : PolicyValue) → policy_of text ≡ Ok p → IsGoodPolicy p
-unfolding policy_of
-text_good text p h =
-    let (ms, h1, a) = bind_ok (reading.or_else (document text) bad_toml) says p h in
-    says_good ms p a
-
-said_in : (r : Result Said ℕ) (e : InputValue) → as_input r ≡ Ok e → (s : Said) × (r ≡ Ok s) × (input_in s ≡ e)
-said_in (Ok s) e h = (s, refl, cc)
-said_in (Err line) e h = cc
-
-events_good : (policy : PolicyValue) (input : List ℕ) (e : InputValue) → input_of policy.pages input ≡ Ok e → IsGoodInput e
-events_good policy input e h =
-    let (s, h1, is) = said_in (with_lines policy.pages nothing_said 1 (lines_of input)) e h in
-    subst IsGoodInput is (good_input policy.pages (lines_of input) s h1)
-
 pub inputs_lawful : (text : List ℕ) (sources : Sources) (input : List ℕ) (n random : ℕ) (m : State) → inputs text sources input n random ≡ Ok m → IsLawful m
 unfolding inputs
 inputs_lawful text sources input n random m h =
     let it = made first_state text sources input n random m h in
-    let good = text_good text it.policy it.policy_is in
+    let good = policy_good text it.policy it.policy_is in
     subst IsLawful it.is (first_lawful it.policy it.images it.events good.process_count.1 good.processes)
 
 pub inputs_ordered : (text : List ℕ) (sources : Sources) (input : List ℕ) (n random : ℕ) (m : State) → inputs text sources input n random ≡ Ok m → IsInOrder m
 unfolding inputs
 inputs_ordered text sources input n random m h =
     let it = made first_state text sources input n random m h in
-    let good = events_good it.policy input it.events it.events_are in
+    let good = (input_good it.policy.pages input it.events it.events_are).0 in
     subst IsInOrder it.is (record { commands = good.order; characters = good.character_order })

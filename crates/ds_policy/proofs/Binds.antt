@@ -1,35 +1,56 @@
 -- What was answered by each step of a definition that answered.
-use Rattle.std.proofs.Common.{◌≡◌, ℕ, ◌≤◌, ◌+◌, pos, Bool, true, false, not, List, Option, Some, None, option_and_then, Ok, refl, arith, nat_le, ◌&&◌, if◌then◌else◌, negsuc, ◌++◌, ◌∷◌, [], subst, length, length-append}
+use Rattle.std.proofs.Common.{◌≡◌, ℕ, ◌≤◌, ◌+◌, pos, Bool, true, false, not, List, Option, Some, None, option_and_then, Result, Ok, Err, IfOk, refl, arith, nat_le, ◌&&◌, if◌then◌else◌, negsuc, ◌++◌, ◌∷◌, [], subst, length, length-append}
 use Rattle.std.proofs.lemmas.Bool.Decides.{nat_tests}
 use Rattle.toml.specs.Data.{Data, string, integer, float, boolean, datetime, array, table, Items, no_items, item, Members, get_member, as_array}
 use Rattle.ds_word.specs.ResultBinding.{◌>>=◌}
-use Rattle.ds_policy.specs.Refusal.{PolicyRefusal, or_else, check}
-use Rattle.ds_policy.specs.Document.{when, number_in, number_at, item_count, items_between, items_if}
+use Rattle.ds_word.proofs.ResultBinding.{bind_ok}
+use Rattle.ds_policy.specs.Refusal.{or_else, check, told_as, IsUnread, IsRead}
+use Rattle.ds_policy.specs.declared.unread.Unread.{Unread}
+use Rattle.ds_policy.specs.declared.unread.Unread.TheVariants.{Reason, Memory}
+use Rattle.ds_policy.specs.Document.{number_in, number_at, item_count, items_between, items_if}
+use Rattle.ds_policy.specs.declared.cause.PolicyReason.{PolicyReason}
 use Rattle.ds_policy.specs.PolicyText.{each_of}
 
 pub bind_some : {A B : Type 0} (o : Option A) (f : A → Option B) (y : B) → option_and_then f o ≡ Some y → (x : A) × (o ≡ Some x) × (f x ≡ Some y)
 bind_some None f y h = cc
 bind_some (Some x) f y h = (x, refl, h)
 
-pub when_true : (b c : Bool) → when b ≡ Some c → b ≡ true
-when_true true c h = refl
-when_true false c h = cc
+pub not_true : (b : Bool) → not b ≡ true → b ≡ false
+not_true false h = refl
+not_true true h = cc
 
-pub when_false : (b c : Bool) → when (not b) ≡ Some c → b ≡ false
-when_false false c h = refl
-when_false true c h = cc
+pub or_else_ok : {A R : Type 0} (o : Option A) (r : R) (x : A) → or_else o r ≡ Ok x → o ≡ Some x
+or_else_ok None r x h = cc
+or_else_ok (Some y) r x h = cc
 
-pub or_else_ok : {A : Type 0} (o : Option A) (e : PolicyRefusal) (x : A) → or_else o e ≡ Ok x → o ≡ Some x
-or_else_ok None e x h = cc
-or_else_ok (Some y) e x h = cc
+pub bind_else : {A B R : Type 0} (o : Option A) (r : R) (f : A → Result B R) (y : B) → (or_else o r >>= f) ≡ Ok y → (x : A) × (o ≡ Some x) × (f x ≡ Ok y)
+bind_else None r f y h = cc
+bind_else (Some x) r f y h = (x, refl, h)
 
-pub check_ok : (b c : Bool) (r : PolicyRefusal) → check b r ≡ Ok c → b ≡ true
-check_ok true c r h = refl
-check_ok false c r h = cc
+pub bind_check : {B R : Type 0} (b : Bool) (r : R) (f : Bool → Result B R) (y : B) → (check b r >>= f) ≡ Ok y → (b ≡ true) × (f true ≡ Ok y)
+bind_check true r f y h = (refl, h)
+bind_check false r f y h = cc
+
+pub told_ok : {A R S : Type 0} (tell : R → S) (r : Result A R) (x : A) → told_as tell r ≡ Ok x → r ≡ Ok x
+told_ok tell (Ok y) x h = cc
+told_ok tell (Err e) x h = cc
+
+-- what was not read is not read further on
+pub unread_then : {A B R : Type 0} (e : Unread R) (r : Result A R) (f : A → Result B R) → IsUnread e r → IsUnread e (r >>= f)
+unread_then (Reason why) r f h = rw h refl
+unread_then Memory r f h = tt
+
+-- what a function returned that read nothing
+pub unread_at : {X Y R : Type 0} (seen : X → Y) (result : Result X (Unread R)) (e : Unread R) (read : Result Y R) → result ≡ Err e → IsUnread e read → IsRead seen result read
+unread_at seen result e read is h = rw is h
 
 pub both : (a b : Bool) → a && b ≡ true → (a ≡ true) × (b ≡ true)
 both true b h = (refl, h)
 both false b h = cc
+
+pub ok_weaker : {X R : Type 0} (r : Result X R) (P Q : X → Type 0) → ((x : X) → P x → Q x) → IfOk r P → IfOk r Q
+ok_weaker (Ok x) P Q weaker held = weaker x held
+ok_weaker (Err e) P Q weaker held = tt
 
 -- an integer from low to high is
 pub number_in_range : (low high : ℕ) (d : Data) (n : ℕ) → number_in low high d ≡ Some n → (low ≤ n) × (n ≤ high)
@@ -55,25 +76,22 @@ number_at_range key low high ms n h =
     number_in_range low high d n h2
 
 -- what each step keeps holds in the end
-module _ {X : Type 0} (one : List X → Data → Option X) (refuse : List X → PolicyRefusal) (P : List X → Type 0) (step : (before : List X) (d : Data) (x : X) → P before → one before d ≡ Some x → P (before ++ x ∷ [])) where
-  pub each_keeps : (before : List X) (ds : Items) (xs : List X) → P before → each_of one refuse before ds ≡ Ok xs → P xs
+module _ {X C : Type 0} (one : List X → Data → Result X C) (tell : ℕ → C → PolicyReason) (P : List X → Type 0) (step : (before : List X) (d : Data) (x : X) → P before → one before d ≡ Ok x → P (before ++ x ∷ [])) where
+  pub each_keeps : (before : List X) (ds : Items) (xs : List X) → P before → each_of one tell before ds ≡ Ok xs → P xs
   unfolding each_of
   each_keeps before no_items xs p e = let same : before ≡ xs = cc in subst P same p
   each_keeps before (item d ds) xs p e =
-      elim (one before d) as (λ o. one before d ≡ o → (or_else o (refuse before) >>= (λ x. each_of one refuse (before ++ x ∷ []) ds)) ≡ Ok xs → P xs) [
-        | None ↦ λ is bad. cc
-        | Some x ↦ λ is good. each_keeps (before ++ x ∷ []) ds xs (step before d x p is) good
-      ] refl e
+      let (x, h1, more) = bind_ok (told_as (tell (length before + 1)) (one before d)) _ xs e in
+      each_keeps (before ++ x ∷ []) ds xs (step before d x p (told_ok (tell (length before + 1)) (one before d) x h1)) more
 
 -- as many values as items
-pub each_counts : {X : Type 0} (one : List X → Data → Option X) (refuse : List X → PolicyRefusal) (before : List X) (ds : Items) (xs : List X) → each_of one refuse before ds ≡ Ok xs → length xs ≡ length before + item_count ds
+pub each_counts : {X C : Type 0} (one : List X → Data → Result X C) (tell : ℕ → C → PolicyReason) (before : List X) (ds : Items) (xs : List X) → each_of one tell before ds ≡ Ok xs → length xs ≡ length before + item_count ds
 unfolding each_of
-each_counts one refuse before no_items xs e = let same : before ≡ xs = cc in rw same (omega arith)
-each_counts one refuse before (item d ds) xs e =
-    elim (one before d) as (λ o. (or_else o (refuse before) >>= (λ x. each_of one refuse (before ++ x ∷ []) ds)) ≡ Ok xs → length xs ≡ length before + (item_count ds + 1)) [
-      | None ↦ λ bad. cc
-      | Some x ↦ λ good. let more = each_counts one refuse (before ++ x ∷ []) ds xs good in omega (arith, more, length-append before (x ∷ []))
-    ] e
+each_counts one tell before no_items xs e = let same : before ≡ xs = cc in rw same (omega arith)
+each_counts one tell before (item d ds) xs e =
+    let (x, h1, good) = bind_ok (told_as (tell (length before + 1)) (one before d)) _ xs e in
+    let more = each_counts one tell (before ++ x ∷ []) ds xs good in
+    omega (arith, more, length-append before (x ∷ []))
 
 pub items_within : (low high : ℕ) (d : Data) (ds : Items) → items_between low high d ≡ Some ds → (low ≤ item_count ds) × (item_count ds ≤ high)
 items_within low high d ds h =

@@ -1,5 +1,5 @@
 -- What is true of each input that was read: each event keeps it.
-use Rattle.std.proofs.Common.{◌≡◌, ◌∙◌, sym, ap, subst, refl, ℕ, ◌+◌, ◌*◌, ◌-◌, ◌<◌, ◌≤◌, ◌&&◌, true, nat_le, nat_lt, codes, bytes_eq, List, [], ◌∷◌, ◌++◌, length, Some, None, option_map, if◌then◌else◌, Ok, arith, inl, inr, append-nil, append_assoc, length-append}
+use Rattle.std.proofs.Common.{◌≡◌, ◌∙◌, sym, ap, subst, refl, ℕ, ◌+◌, ◌*◌, ◌-◌, ◌<◌, ◌≤◌, ◌&&◌, Bool, true, false, nat_le, nat_lt, codes, bytes_eq, List, [], ◌∷◌, ◌++◌, length, Some, None, Result, if◌then◌else◌, Ok, Err, arith, inl, inr, append-nil, append_assoc, length-append}
 use Rattle.std.proofs.lemmas.List.{get_or_append_left, get_or_push}
 use Rattle.std.proofs.lemmas.List.Elements.{All-nil, All-push, All-weaker, All-get_or}
 use Rattle.std.proofs.lemmas.List.Sorted.{IsNonDecreasingBy-push, IsNonDecreasingBy-short}
@@ -11,6 +11,9 @@ use Rattle.ds_policy.specs.declared.command.Command.{Command}
 use Rattle.ds_policy.specs.declared.command.Command.TheVariants.{Grant, Narrow, Revoke, Drop, Resume, Stop}
 use Rattle.ds_policy.specs.declared.command.TimedCommand.{TimedCommand}
 use Rattle.ds_policy.specs.declared.command.Character.{Character}
+use Rattle.ds_policy.specs.declared.events.cause.InputCause.{InputCause}
+use Rattle.ds_policy.specs.declared.events.cause.InputCause.TheVariants.{BadTime, UnknownPage, BadRight, BadGive, BadLine, BadBytes}
+use Rattle.ds_policy.specs.declared.events.cause.InputReason.{InputReason}
 use Rattle.ds_policy.specs.declared.events.event.Event.{Event}
 use Rattle.ds_policy.specs.declared.events.event.Event.TheVariants.{Order, Input}
 use Rattle.ds_policy.specs.declared.events.event.TimedEvent.{TimedEvent}
@@ -20,11 +23,14 @@ use Rattle.ds_policy.specs.declared.policy.PolicyPage.{PolicyPage}
 use Rattle.ds_policy.specs.Grants.{is_some_right}
 use Rattle.ds_policy.specs.PolicyParts.{page_named}
 use Rattle.ds_word.specs.Digits.{digit_of, digits_from}
-use Rattle.ds_policy.specs.InputNumbers.{decimal_of, address_of, bytes_of}
-use Rattle.ds_policy.specs.InputLines.{words_of, process_of, line_of, right_of, give_of, of_process, of_entry, keys_of, command_of, event_of, timed_event_of}
-use Rattle.ds_policy.specs.InputText.{Said, nothing_said, characters_of, with_event, follows, is_skipped, with_line, with_lines, or_fault, input_in}
+use Rattle.ds_word.specs.ResultBinding.{◌>>=◌}
+use Rattle.ds_word.proofs.ResultBinding.{bind_ok}
+use Rattle.ds_policy.specs.InputNumbers.{decimal_of, bytes_of}
+use Rattle.ds_policy.specs.InputLines.{words_of, line_of, right_of, place_of, granted, given, grant_of, entry_in, process_in, keys_of, command_of, event_in, timed_event_of}
+use Rattle.ds_policy.specs.InputText.{Said, nothing_said, characters_of, with_event, follows, order_cause, with_timed, is_skipped, with_words, reason_at, with_line, with_lines, lines_of, input_in, read_input, input_of}
 use Rattle.ds_policy.specs.InputFacts.{has_time, comes_at, IsGoodCommand, AreGoodCommands, IsGoodCharacter, AreNumbered, IsGoodInput}
-use Rattle.ds_policy.proofs.Binds.{bind_some, both}
+use Rattle.ds_policy.specs.Value.{InputValue}
+use Rattle.ds_policy.proofs.Binds.{bind_some, bind_else, bind_check, told_ok, both}
 use Rattle.ds_policy.proofs.GoodPolicy.{page_within}
 
 -- a number read within a limit is within it
@@ -61,37 +67,16 @@ line_within (c ∷ []) line h = elim (cases_Bool (nat_le 48 c && nat_le c 51)) [
 ]
 line_within (c ∷ b ∷ rest) line h = cc
 
-keys_good : (pages : ℕ) (words : List (List ℕ)) (e : Event) → keys_of words ≡ Some e → IsGoodFor pages e
+keys_good : (pages : ℕ) (words : List (List ℕ)) (e : Event) → keys_of words ≡ Ok e → IsGoodFor pages e
 unfolding keys_of
 keys_good pages [] e h = cc
 keys_good pages (l ∷ []) e h = cc
 keys_good pages (l ∷ digits ∷ []) e h =
-    let (line, h1, a) = bind_some (line_of l) _ e h in
-    let (keys, h2, b) = bind_some (bytes_of digits) _ e a in
+    let (line, h1, a) = bind_else (line_of l) BadLine _ e h in
+    let (keys, h2, b) = bind_else (bytes_of digits) BadBytes _ e a in
     let same : Input line keys ≡ e = cc in
     subst (IsGoodFor pages) same (line_within l line h1)
 keys_good pages (l ∷ digits ∷ more ∷ rest) e h = cc
-
-of_process_good : (pages : ℕ) (verb : List ℕ) (p : ℕ) (c : Command) → of_process verb p ≡ Some c → IsGoodCommand pages c
-of_process_good pages verb p c h = elim (cases_Bool (bytes_eq verb (codes "resume"))) [
-  | inl resume ↦ let same : Some (Resume p) ≡ Some c = rw resume at h in let is : Resume p ≡ c = cc in subst (IsGoodCommand pages) is tt
-  | inr other ↦ elim (cases_Bool (bytes_eq verb (codes "stop"))) [
-    | inl stop ↦ let same : Some (Stop p) ≡ Some c = rw (other, stop) at h in let is : Stop p ≡ c = cc in subst (IsGoodCommand pages) is tt
-    | inr neither ↦ let none : None ≡ Some c = rw (other, neither) at h in cc
-  ]
-]
-
-of_entry_good : (pages : ℕ) (verb : List ℕ) (p a : ℕ) (c : Command) → of_entry verb p a ≡ Some c → IsGoodCommand pages c
-of_entry_good pages verb p a c h = elim (cases_Bool (bytes_eq verb (codes "narrow"))) [
-  | inl narrow ↦ let same : Some (Narrow p a) ≡ Some c = rw narrow at h in let is : Narrow p a ≡ c = cc in subst (IsGoodCommand pages) is tt
-  | inr other ↦ elim (cases_Bool (bytes_eq verb (codes "revoke"))) [
-    | inl revoke ↦ let same : Some (Revoke p a) ≡ Some c = rw (other, revoke) at h in let is : Revoke p a ≡ c = cc in subst (IsGoodCommand pages) is tt
-    | inr third ↦ elim (cases_Bool (bytes_eq verb (codes "drop"))) [
-      | inl drop ↦ let same : Some (Drop p a) ≡ Some c = rw (other, third, drop) at h in let is : Drop p a ≡ c = cc in subst (IsGoodCommand pages) is tt
-      | inr none ↦ let nothing : None ≡ Some c = rw (other, third, none) at h in cc
-    ]
-  ]
-]
 
 right_given : (word : List ℕ) (right : Right) → right_of word ≡ Some right → is_some_right right ≡ true
 right_given word right h = elim (cases_Bool (bytes_eq word (codes "read"))) [
@@ -102,57 +87,78 @@ right_given word right h = elim (cases_Bool (bytes_eq word (codes "read"))) [
   ]
 ]
 
-grant_verb : (pages : ℕ) (verb : List ℕ) (d c : Command) → IsGoodCommand pages d → (if bytes_eq verb (codes "grant") then Some d else None) ≡ Some c → IsGoodCommand pages c
-grant_verb pages verb d c good h = elim (cases_Bool (bytes_eq verb (codes "grant"))) [
-  | inl grant ↦ let same : Some d ≡ Some c = rw grant at h in let is : d ≡ c = cc in subst (IsGoodCommand pages) is good
-  | inr other ↦ let none : None ≡ Some c = rw other at h in cc
-]
+granted_good : (pages : List PolicyPage) (p a name r : List ℕ) (give : Bool) (c : Command) → granted pages p a name r give ≡ Ok c → IsGoodCommand (length pages) c
+unfolding granted
+granted_good pages p a name r give c h =
+    let (place, h1, i) = bind_ok (place_of p a) _ c h in
+    let (page, h2, j) = bind_else (page_named pages name) UnknownPage _ c i in
+    let (right, h3, k) = bind_else (right_of r) BadRight _ c j in
+    let same : Grant place.process place.address page right give ≡ c = cc in
+    subst (IsGoodCommand (length pages)) same (page_within pages name page h2, right_given r right h3)
 
-command_good : (pages : List PolicyPage) (verb : List ℕ) (words : List (List ℕ)) (c : Command) → command_of pages verb words ≡ Some c → IsGoodCommand (length pages) c
+given_good : (pages : List PolicyPage) (p a name r word : List ℕ) (c : Command) → given pages p a name r word ≡ Ok c → IsGoodCommand (length pages) c
+unfolding given
+given_good pages p a name r word c h =
+    let (d, h1, i) = bind_ok (granted pages p a name r true) _ c h in
+    let (known, j) = bind_check (bytes_eq word (codes "give")) BadGive _ c i in
+    let same : d ≡ c = cc in
+    subst (IsGoodCommand (length pages)) same (granted_good pages p a name r true d h1)
+
+grant_good : (pages : List PolicyPage) (words : List (List ℕ)) (c : Command) → grant_of pages words ≡ Ok c → IsGoodCommand (length pages) c
+unfolding grant_of
+grant_good pages [] c h = cc
+grant_good pages (p ∷ []) c h = cc
+grant_good pages (p ∷ a ∷ []) c h = cc
+grant_good pages (p ∷ a ∷ name ∷ []) c h = cc
+grant_good pages (p ∷ a ∷ name ∷ r ∷ []) c h = granted_good pages p a name r false c h
+grant_good pages (p ∷ a ∷ name ∷ r ∷ word ∷ []) c h = given_good pages p a name r word c h
+grant_good pages (p ∷ a ∷ name ∷ r ∷ word ∷ more ∷ rest) c h = cc
+
+-- a command is good that is made of what is read
+made_good : {X : Type 0} (pages : ℕ) (r : Result X InputCause) (make : X → Command) (c : Command) → ((x : X) → IsGoodCommand pages (make x))
+    → (r >>= (λ x. Ok (make x))) ≡ Ok c → IsGoodCommand pages c
+made_good pages r make c good h =
+    let (x, h1, a) = bind_ok r _ c h in
+    let same : make x ≡ c = cc in
+    subst (IsGoodCommand pages) same (good x)
+
+-- what holds of both holds of either
+by_verb : {R : Type 0} (verb : Bool) (one other x : R) (P : Type 0) → (one ≡ x → P) → (other ≡ x → P) → (if verb then one else other) ≡ x → P
+by_verb true one other x P this that h = this h
+by_verb false one other x P this that h = that h
+
+command_good : (pages : List PolicyPage) (verb : List ℕ) (words : List (List ℕ)) (c : Command) → command_of pages verb words ≡ Ok c → IsGoodCommand (length pages) c
 unfolding command_of
-command_good pages verb [] c h = cc
-command_good pages verb (p ∷ []) c h =
-    let (process, h1, a) = bind_some (process_of p) (of_process verb) c h in
-    of_process_good (length pages) verb process c a
-command_good pages verb (p ∷ a ∷ []) c h =
-    let (process, h1, q) = bind_some (process_of p) _ c h in
-    let (address, h2, r) = bind_some (address_of a) _ c q in
-    of_entry_good (length pages) verb process address c r
-command_good pages verb (p ∷ a ∷ name ∷ []) c h = cc
-command_good pages verb (p ∷ a ∷ name ∷ word ∷ rest) c h =
-    let (process, h1, i) = bind_some (process_of p) _ c h in
-    let (address, h2, j) = bind_some (address_of a) _ c i in
-    let (page, h3, k) = bind_some (page_named pages name) _ c j in
-    let (right, h4, l) = bind_some (right_of word) _ c k in
-    let (give, h5, m) = bind_some (give_of rest) _ c l in
-    grant_verb (length pages) verb (Grant process address page right give) c (page_within pages name page h3, right_given word right h4) m
+command_good pages verb words c h =
+    let n = length pages in
+    by_verb (bytes_eq verb (codes "grant")) _ _ _ _ (grant_good pages words c)
+    (by_verb (bytes_eq verb (codes "narrow")) _ _ _ _ (made_good n (entry_in words) (λ e. Narrow e.process e.address) c (λ e. tt))
+    (by_verb (bytes_eq verb (codes "revoke")) _ _ _ _ (made_good n (entry_in words) (λ e. Revoke e.process e.address) c (λ e. tt))
+    (by_verb (bytes_eq verb (codes "drop")) _ _ _ _ (made_good n (entry_in words) (λ e. Drop e.process e.address) c (λ e. tt))
+    (by_verb (bytes_eq verb (codes "resume")) _ _ _ _ (made_good n (process_in words) (λ p. Resume p) c (λ p. tt))
+    (by_verb (bytes_eq verb (codes "stop")) _ _ _ _ (made_good n (process_in words) (λ p. Stop p) c (λ p. tt)) (λ none. cc)))))) h
 
-orders_good : (pages : List PolicyPage) (verb : List ℕ) (words : List (List ℕ)) (e : Event) → option_map (λ c. Order c) (command_of pages verb words) ≡ Some e → IsGoodFor (length pages) e
-orders_good pages verb words e h =
-    elim (command_of pages verb words) as (λ o. command_of pages verb words ≡ o → option_map (λ c. Order c) o ≡ Some e → IsGoodFor (length pages) e) [
-      | None ↦ λ is none. cc
-      | Some c ↦ λ is some. let same : Order c ≡ e = cc in subst (IsGoodFor (length pages)) same (command_good pages verb words c is)
-    ] refl h
-
-event_is_good : (pages : List PolicyPage) (verb : List ℕ) (words : List (List ℕ)) (e : Event) → event_of pages verb words ≡ Some e → IsGoodFor (length pages) e
-event_is_good pages verb words e h = elim (cases_Bool (bytes_eq verb (codes "key"))) [
-  | inl key ↦ keys_good (length pages) words e (rw key at h)
-  | inr other ↦ orders_good pages verb words e (rw other at h)
-]
+event_is_good : (pages : List PolicyPage) (words : List (List ℕ)) (e : Event) → event_in pages words ≡ Ok e → IsGoodFor (length pages) e
+event_is_good pages [] e h = cc
+event_is_good pages (verb ∷ words) e h =
+    by_verb (bytes_eq verb (codes "key")) _ _ _ _ (keys_good (length pages) words e)
+    (λ ordered.
+    let (c, h1, a) = bind_ok (command_of pages verb words) _ e ordered in
+    let same : Order c ≡ e = cc in
+    subst (IsGoodFor (length pages)) same (command_good pages verb words c h1)) h
 
 record IsGoodEvent (pages : ℕ) (e : TimedEvent) : Type 0 where
   time : e.time ≤ 1000000000
   good : IsGoodFor pages e.event
 
-event_good : (pages : List PolicyPage) (words : List (List ℕ)) (e : TimedEvent) → timed_event_of pages words ≡ Some e → IsGoodEvent (length pages) e
+event_good : (pages : List PolicyPage) (words : List (List ℕ)) (e : TimedEvent) → timed_event_of pages words ≡ Ok e → IsGoodEvent (length pages) e
 unfolding timed_event_of
 event_good pages [] e h = cc
-event_good pages (t ∷ []) e h = cc
-event_good pages (t ∷ verb ∷ rest) e h =
-    let (time, h1, a) = bind_some (decimal_of 1000000000 t) _ e h in
-    let (event, h2, b) = bind_some (event_of pages verb rest) _ e a in
-    let same : record { time = time; event = event } ≡ e = ap (λ o. elim o as (λ x. TimedEvent) [ None ↦ e | Some x ↦ x ]) b in
-    subst (IsGoodEvent (length pages)) same (record { time = decimal_within 1000000000 t time h1; good = event_is_good pages verb rest event h2 })
+event_good pages (t ∷ words) e h =
+    let (time, h1, a) = bind_else (decimal_of 1000000000 t) BadTime _ e h in
+    let (event, h2, b) = bind_ok (event_in pages words) _ e a in
+    let same : record { time = time; event = event } ≡ e = ap (λ (o : Result TimedEvent InputCause). elim o as (λ x. TimedEvent) [ Ok x ↦ x | Err r ↦ e ]) b in
+    subst (IsGoodEvent (length pages)) same (record { time = decimal_within 1000000000 t time h1; good = event_is_good pages words event h2 })
 
 -- what lines have said under a policy of so many pages, and that nothing of it is later than the last event
 pub record IsGood (pages : ℕ) (s : Said) : Type 0 where
@@ -240,31 +246,28 @@ event_keeps : (pages : ℕ) (s : Said) (t : ℕ) (e : Event) → IsGood pages s 
 event_keeps pages s t (Order c) good after due room sound = order_keeps pages s t c good after due room sound
 event_keeps pages s t (Input line keys) good after due room four = input_keeps pages s t line keys good after due room four
 
-line_keeps : (pages : List PolicyPage) (s : Said) (line : List ℕ) (t : Said) → IsGood (length pages) s → with_line pages s line ≡ Some t → IsGood (length pages) t
+line_keeps : (pages : List PolicyPage) (s : Said) (n : ℕ) (line : List ℕ) (t : Said) → IsGood (length pages) s → with_line pages s n line ≡ Ok t → IsGood (length pages) t
 unfolding with_line
-line_keeps pages s line t good h = elim (cases_Bool (is_skipped line)) [
-  | inl skipped ↦ let same : Some s ≡ Some t = rw skipped at h in let is : s ≡ t = cc in subst (IsGood (length pages)) is good
-  | inr event ↦
-      let (e, read, more) = bind_some (timed_event_of pages (words_of line)) _ t (rw event at h) in
-      elim (cases_Bool (follows s e.time)) [
-        | inl follow ↦
-            let (after, room) = both (nat_le s.latest e.time) (nat_lt s.events 4096) follow in
-            let same : Some (with_event s e.time e.event) ≡ Some t = rw follow at more in
-            let is : with_event s e.time e.event ≡ t = cc in
-            let sound = event_good pages (words_of line) e read in
-            subst (IsGood (length pages)) is (event_keeps (length pages) s e.time e.event good (grind (arith, nat_tests)) sound.time (grind (arith, nat_tests)) sound.good)
-        | inr may_not ↦ let none : None ≡ Some t = rw may_not at more in cc
-      ]
-]
+line_keeps pages s n line t good h =
+    by_verb (is_skipped line) _ _ _ _ (λ skipped. let is : s ≡ t = cc in subst (IsGood (length pages)) is good)
+    (λ said.
+    let (e, read, more) = bind_ok (timed_event_of pages (words_of line)) (with_timed s) t (told_ok (reason_at n line) (with_words pages s line) t said) in
+    elim (cases_Bool (follows s e.time)) [
+      | inl follow ↦
+          let (after, room) = both (nat_le s.latest e.time) (nat_lt s.events 4096) follow in
+          let same : Ok (with_event s e.time e.event) ≡ Ok t = rw follow at more in
+          let is : with_event s e.time e.event ≡ t = cc in
+          let sound = event_good pages (words_of line) e read in
+          subst (IsGood (length pages)) is (event_keeps (length pages) s e.time e.event good (grind (arith, nat_tests)) sound.time (grind (arith, nat_tests)) sound.good)
+      | inr may_not ↦ let none : Err (order_cause s e.time) ≡ Ok t = rw may_not at more in cc
+    ]) h
 
 lines_keep : (pages : List PolicyPage) (s : Said) (n : ℕ) (lines : List (List ℕ)) (t : Said) → IsGood (length pages) s → with_lines pages s n lines ≡ Ok t → IsGood (length pages) t
 unfolding with_lines
 lines_keep pages s n [] t good h = let same : s ≡ t = cc in subst (IsGood (length pages)) same good
 lines_keep pages s n (line ∷ lines) t good h =
-    elim (with_line pages s line) as (λ o. with_line pages s line ≡ o → or_fault o n (λ next. with_lines pages next (n + 1) lines) ≡ Ok t → IsGood (length pages) t) [
-      | None ↦ λ is bad. cc
-      | Some next ↦ λ is more. lines_keep pages next (n + 1) lines t (line_keeps pages s line next good is) more
-    ] refl h
+    let (next, h1, more) = bind_ok (with_line pages s n line) _ t h in
+    lines_keep pages next (n + 1) lines t (line_keeps pages s n line next good h1) more
 
 nothing_good : (pages : ℕ) → IsGood pages nothing_said
 nothing_good pages = record {
@@ -296,3 +299,10 @@ good_input pages lines t h =
 -- and its commands are good for the policy's pages
 pub good_commands : (pages : List PolicyPage) (lines : List (List ℕ)) (t : Said) → with_lines pages nothing_said 1 lines ≡ Ok t → AreGoodCommands (length pages) t.commands
 good_commands pages lines t h = (lines_keep pages nothing_said 1 lines t (nothing_good (length pages)) h).commands
+
+-- an input and its commands are good that a text says
+pub input_good : (pages : List PolicyPage) (text : List ℕ) (i : InputValue) → input_of pages text ≡ Ok i → IsGoodInput i × AreGoodCommands (length pages) i.commands
+input_good pages text i h =
+    let (t, h1, a) = bind_ok (with_lines pages nothing_said 1 (lines_of text)) _ i (told_ok (λ (r : InputReason). r.line) (read_input pages text) i h) in
+    let same : input_in t ≡ i = ap (λ (o : Result InputValue InputReason). elim o as (λ x. InputValue) [ Ok x ↦ x | Err r ↦ i ]) a in
+    subst (λ (j : InputValue). IsGoodInput j × AreGoodCommands (length pages) j.commands) same (good_input pages (lines_of text) t h1, good_commands pages (lines_of text) t h1)

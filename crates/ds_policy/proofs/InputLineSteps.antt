@@ -1,5 +1,5 @@
 -- One line more in the reading of an input.
-use Rattle.std.proofs.Common.{◌≡◌, refl, ℕ, ◌+◌, ◌<◌, ◌≤◌, ◌==◌, Bool, false, List, [], ◌∷◌, length, length-drop, Some, None, Ok, Err, arith, inl, inr}
+use Rattle.std.proofs.Common.{◌≡◌, refl, ℕ, ◌+◌, ◌<◌, ◌≤◌, ◌==◌, Bool, false, List, [], ◌∷◌, length, length-drop, Ok, arith, inl, inr}
 use Rattle.std.proofs.lemmas.List.{drop_all, take_all}
 use Rattle.std.proofs.lemmas.List.Sums.{prefix_len-le-length, fails_before_first}
 use Rattle.std.proofs.lemmas.List.Splits.{slice_split_first, slice_split_none}
@@ -7,14 +7,19 @@ use Rattle.std.proofs.lemmas.List.Elements.{All-from_get_or}
 use Rattle.std.proofs.lemmas.Bool.{cases_lt}
 use Rattle.std.specs.List.{position_or_len, before_first, after_first}
 use Rattle.ds_policy.specs.declared.policy.PolicyPage.{PolicyPage}
-use Rattle.ds_policy.specs.InputText.{Said, with_line, with_lines, or_fault, lines_of}
+use Rattle.ds_word.specs.ResultBinding.{◌>>=◌}
+use Rattle.ds_policy.specs.declared.events.cause.InputReason.{InputReason}
+use Rattle.ds_policy.specs.declared.unread.Unread.{Unread}
+use Rattle.ds_policy.specs.Refusal.{IsUnread}
+use Rattle.ds_policy.specs.InputText.{Said, with_line, with_lines, lines_of}
+use Rattle.ds_policy.proofs.Binds.{unread_then}
 
 abbrev pub is_line_feed : ℕ → Bool
 is_line_feed b = b == 10
 
 -- the first line of a text, and the lines after it
 lines_first : (pages : List PolicyPage) (s : Said) (n : ℕ) (text : List ℕ)
-    → with_lines pages s n (lines_of text) ≡ or_fault (with_line pages s (before_first is_line_feed text)) n (λ next. with_lines pages next (n + 1) (lines_of (after_first is_line_feed text)))
+    → with_lines pages s n (lines_of text) ≡ (with_line pages s n (before_first is_line_feed text) >>= (λ next. with_lines pages next (n + 1) (lines_of (after_first is_line_feed text))))
 unfolding with_lines with_line
 lines_first pages s n text =
     let at = position_or_len is_line_feed text in
@@ -28,14 +33,15 @@ lines_first pages s n text =
     ]
 
 pub lines_good : (pages : List PolicyPage) (s next : Said) (n : ℕ) (text line rest : List ℕ)
-    → line ≡ before_first is_line_feed text → rest ≡ after_first is_line_feed text → with_line pages s line ≡ Some next
+    → line ≡ before_first is_line_feed text → rest ≡ after_first is_line_feed text → with_line pages s n line ≡ Ok next
     → with_lines pages s n (lines_of text) ≡ with_lines pages next (n + 1) (lines_of rest)
 lines_good pages s next n text line rest first behind good = rw (lines_first pages s n text, ← first, ← behind, good)
 
-pub lines_bad : (pages : List PolicyPage) (s : Said) (n : ℕ) (text line : List ℕ)
-    → line ≡ before_first is_line_feed text → with_line pages s line ≡ None
-    → with_lines pages s n (lines_of text) ≡ Err n
-lines_bad pages s n text line first bad = rw (lines_first pages s n text, ← first, bad)
+pub lines_bad : (pages : List PolicyPage) (s : Said) (n : ℕ) (text line : List ℕ) (e : Unread InputReason)
+    → line ≡ before_first is_line_feed text → IsUnread e (with_line pages s n line)
+    → IsUnread e (with_lines pages s n (lines_of text))
+lines_bad pages s n text line e first bad =
+    rw (lines_first pages s n text, ← first) (unread_then e (with_line pages s n line) (λ next. with_lines pages next (n + 1) (lines_of (after_first is_line_feed text))) bad)
 
 pub lines_end : (pages : List PolicyPage) (s : Said) (n : ℕ) (text : List ℕ) → length text ≡ 0 → with_lines pages s n (lines_of text) ≡ Ok s
 unfolding with_lines with_line

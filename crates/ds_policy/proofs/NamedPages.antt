@@ -1,11 +1,12 @@
 -- Which page a name is of, where pages come one by one.
-use Rattle.std.proofs.Common.{◌≡◌, ◌∙◌, sym, ap, subst, refl, ℕ, ◌+◌, suc, Bool, true, false, bytes_eq, List, [], ◌∷◌, ◌++◌, length, Option, Some, None, is_some, option_map, inl, inr, arith, if◌then◌else◌, nat_lt}
+use Rattle.std.proofs.Common.{◌≡◌, ◌∙◌, sym, ap, subst, refl, ℕ, ◌+◌, suc, Bool, true, false, bytes_eq, List, [], ◌∷◌, ◌++◌, length, Option, Some, None, is_some, option_map, Ok, Err, inl, inr, arith, if◌then◌else◌, nat_lt}
 use Rattle.std.specs.List.{position, position_or_len, list_any}
 use Rattle.std.proofs.lemmas.Bool.{cases_Bool}
 use Rattle.std.proofs.lemmas.Bool.Decides.{nat_tests}
 use Rattle.std.proofs.lemmas.List.Folds.{list_any-append}
 use Rattle.std.proofs.lemmas.Slice.Eq.{bytes_eq-Decides}
 use Rattle.toml.specs.Data.{Data}
+use Rattle.ds_policy.specs.declared.cause.PageCause.TheVariants.{SameName}
 use Rattle.ds_policy.specs.declared.policy.PolicyPage.{PolicyPage}
 use Rattle.ds_policy.specs.Document.{is_among}
 use Rattle.ds_policy.specs.PolicyParts.{page_named, page_of, new_page}
@@ -109,15 +110,15 @@ names_more m n before page name number e k held h = elim (cases_Bool (is_some (h
 ]
 
 -- a page whose name is held
-pub page_taken : (m : Names) (before : List PolicyPage) (d : Data) (page : PolicyPage) → AreNamed m before → page_of d ≡ Some page → is_some (held_number m page.name) ≡ true
-    → new_page before d ≡ None
+pub page_taken : (m : Names) (before : List PolicyPage) (d : Data) (page : PolicyPage) → AreNamed m before → page_of d ≡ Ok page → is_some (held_number m page.name) ≡ true
+    → new_page before d ≡ Err SameName
 unfolding new_page
 page_taken m before d page held is taken =
     rw (is, sym (some_place (λ (q : PolicyPage). bytes_eq q.name page.name) before) ∙ sym (ap is_some (held page.name)) ∙ taken) refl
 
 -- a page whose name is not
-pub page_free : (m : Names) (before : List PolicyPage) (d : Data) (page : PolicyPage) → AreNamed m before → page_of d ≡ Some page → is_some (held_number m page.name) ≡ false
-    → new_page before d ≡ Some page
+pub page_free : (m : Names) (before : List PolicyPage) (d : Data) (page : PolicyPage) → AreNamed m before → page_of d ≡ Ok page → is_some (held_number m page.name) ≡ false
+    → new_page before d ≡ Ok page
 unfolding new_page
 page_free m before d page held is free =
     rw (is, sym (some_place (λ (q : PolicyPage). bytes_eq q.name page.name) before) ∙ sym (ap is_some (held page.name)) ∙ free) refl

@@ -1,17 +1,15 @@
 -- Whether there may be one more rule is told by the rules of its process.
-use Rattle.std.proofs.Common.{◌≡◌, ◌∙◌, sym, ap, refl, ℕ, ◌-◌, ◌≤◌, ◌==◌, ◌||◌, nat_lt, nat_le, true, List, [], ◌∷◌, ◌++◌, length, map, count_by, Some, None, inl, inr, arith, set, get_or, if◌then◌else◌, append-nil}
+use Rattle.std.proofs.Common.{◌≡◌, ◌∙◌, sym, ap, refl, ℕ, ◌-◌, ◌≤◌, ◌==◌, ◌||◌, true, List, [], ◌∷◌, ◌++◌, length, map, count_by, inl, inr, arith, set, get_or, append-nil}
 use Rattle.std.specs.List.{list_any}
 use Rattle.std.proofs.lemmas.Bool.{cases_Bool}
 use Rattle.std.proofs.lemmas.Bool.Decides.{nat_tests}
 use Rattle.std.proofs.lemmas.List.Elements.{filter-append}
 use Rattle.std.proofs.lemmas.List.{get_or-set_same, get_or-set_other, length-set}
 use Rattle.std.proofs.lemmas.List.Sums.{length-filter}
-use Rattle.toml.specs.Data.{Data}
-use Rattle.ds_policy.specs.Grants.{region, count_distinct}
+use Rattle.ds_policy.specs.Grants.{region}
 use Rattle.ds_policy.specs.declared.policy.PolicyRule.{PolicyRule}
-use Rattle.ds_policy.specs.declared.policy.PolicyPage.{PolicyPage}
-use Rattle.ds_policy.specs.PolicyParts.{has_same_place, regions_of, rule_of, new_rule}
-use Rattle.ds_policy.specs.OwnRules.{own_rules, AreByProcess, leaves_room}
+use Rattle.ds_policy.specs.PolicyParts.{has_same_place, regions_of, beside}
+use Rattle.ds_policy.specs.OwnRules.{own_rules, AreByProcess}
 
 any_own : (r : PolicyRule) (rules : List PolicyRule) → list_any (λ (s : PolicyRule). has_same_place s r) (own_rules r.process rules) ≡ list_any (λ (s : PolicyRule). has_same_place s r) rules
 any_own r [] = refl
@@ -36,24 +34,10 @@ count_own p rules =
 regions_own : (p : ℕ) (rules : List PolicyRule) → regions_of p (own_rules p rules) ≡ regions_of p rules
 regions_own p rules = ap (map (λ (r : PolicyRule). region r.address)) (own_twice p rules)
 
-pub rule_found : (version n : ℕ) (pages : List PolicyPage) (before : List PolicyRule) (d : Data) (r : PolicyRule) → rule_of version n pages d ≡ Some r
-    → new_rule version n pages before d ≡ (if leaves_room (own_rules r.process before) r then Some r else None)
-unfolding new_rule
-rule_found version n pages before d r is = rw (is, any_own r before, count_own r.process before, regions_own r.process before)
-    (elim (cases_Bool (list_any (λ (s : PolicyRule). has_same_place s r) before)) [
-      | inl taken ↦ rw taken refl
-      | inr free ↦ rw free (elim (cases_Bool (nat_lt (count_by (λ (s : PolicyRule). s.process == r.process) before) 256)) [
-        | inr full ↦ rw full refl
-        | inl few ↦ rw few (elim (cases_Bool (nat_le (count_distinct (region r.address ∷ regions_of r.process before)) 4)) [
-          | inl near ↦ rw near refl
-          | inr far ↦ rw far refl
-        ])
-      ])
-    ])
-
-pub rule_missing : (version n : ℕ) (pages : List PolicyPage) (before : List PolicyRule) (d : Data) → rule_of version n pages d ≡ None → new_rule version n pages before d ≡ None
-unfolding new_rule
-rule_missing version n pages before d is = rw is refl
+-- what stands beside a rule of its process is told by those rules alone
+pub beside_own : (before : List PolicyRule) (r : PolicyRule) → beside (own_rules r.process before) r ≡ beside before r
+unfolding beside
+beside_own before r = rw (any_own r before, count_own r.process before, regions_own r.process before)
 
 -- one more rule, in the list of its process
 pub by_process_more : (owns : List (List PolicyRule)) (rules : List PolicyRule) (r : PolicyRule) → 1 ≤ r.process → r.process ≤ length owns → AreByProcess owns rules

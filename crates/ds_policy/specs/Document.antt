@@ -6,10 +6,6 @@ use Rattle.ds_word.specs.OptionBinding.{◌>>=◌}
 use Rattle.toml.specs.Data.{Data, integer, Items, no_items, item, Members, no_members, member, get_member, as_array, as_str}
 use Rattle.toml.specs.Parse.{parse_document}
 
--- goes on only where it holds
-abbrev pub when : Bool → Option Bool
-when b = if b then Some true else None
-
 -- the root table of a text in UTF-8
 abbrev pub document : List ℕ → Option Members
 document text = if is_utf8 text then parse_document text else None

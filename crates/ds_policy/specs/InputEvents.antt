@@ -1,16 +1,17 @@
 -- Worked rows of what lines of an input say.
-use Rattle.std.specs.Prelude.{codes, refl, ◌≡◌, ℕ, zero, suc, Bool, true, false, List, [], ◌∷◌, ◌++◌, ◌+◌, map, flat_map, replicate, Ok, Option, Some, None, is_some}
+use Rattle.std.specs.Prelude.{codes, refl, ◌≡◌, ℕ, zero, suc, Bool, true, false, List, [], ◌∷◌, ◌++◌, ◌+◌, map, flat_map, replicate, None, Result, Ok, is_ok}
 use Rattle.ds_policy.specs.declared.command.Command.{Command}
 use Rattle.ds_policy.specs.declared.command.Command.TheVariants.{Grant, Narrow, Revoke, Drop, Resume, Stop}
 use Rattle.ds_policy.specs.declared.command.TimedCommand.{TimedCommand}
 use Rattle.ds_policy.specs.declared.command.Character.{Character}
+use Rattle.ds_policy.specs.declared.events.cause.InputCause.{InputCause}
 use Rattle.ds_policy.specs.declared.events.event.Event.TheVariants.{Order, Input}
 use Rattle.ds_policy.specs.declared.events.event.TimedEvent.{TimedEvent}
 use Rattle.ds_policy.specs.declared.grant.Right.TheVariants.{Read, Write}
 use Rattle.ds_policy.specs.declared.policy.PolicyPage.{PolicyPage}
 use Rattle.ds_word.specs.Digits.{digits_from}
 use Rattle.ds_policy.specs.InputNumbers.{pairs_of}
-use Rattle.ds_policy.specs.InputLines.{words_of, command_of, keys_of, timed_event_of}
+use Rattle.ds_policy.specs.InputLines.{words_of, granted, given, grant_of, command_of, keys_of, timed_event_of}
 use Rattle.ds_policy.specs.InputText.{nothing_said, follows, with_line, with_lines, lines_of}
 
 -- the pages `code` and `data`
@@ -18,16 +19,16 @@ abbrev two_pages : List PolicyPage
 two_pages = record { name = codes "code"; source = None } ∷ record { name = codes "data"; source = None } ∷ []
 
 -- the event of a line
-abbrev said_by : List ℕ → Option TimedEvent
+abbrev said_by : List ℕ → Result TimedEvent InputCause
 said_by line = timed_event_of two_pages (words_of line)
 
 -- a command at a time
-abbrev order : ℕ → Command → Option TimedEvent
-order time command = Some (record { time = time; event = Order command })
+abbrev order : ℕ → Command → Result TimedEvent InputCause
+order time command = Ok (record { time = time; event = Order command })
 
 -- characters for a line at a time
-abbrev input : ℕ → ℕ → List ℕ → Option TimedEvent
-input time line keys = Some (record { time = time; event = Input line keys })
+abbrev input : ℕ → ℕ → List ℕ → Result TimedEvent InputCause
+input time line keys = Ok (record { time = time; event = Input line keys })
 
 pub a_line_says_a_command : map said_by (
     codes "0 resume 1"
@@ -54,7 +55,7 @@ pub a_line_says_a_command : map said_by (
     ∷ order 7 (Grant 1 0x0041000A 1 Write false)
     ∷ order 7 (Grant 1 0x0041000A 1 Read true)
     ∷ []
-unfolding digits_from pairs_of command_of keys_of timed_event_of
+unfolding digits_from pairs_of granted given grant_of command_of keys_of timed_event_of
 a_line_says_a_command = refl
 
 pub a_line_says_characters : map said_by (
@@ -66,10 +67,10 @@ pub a_line_says_characters : map said_by (
     ∷ input 5 3 (codes "Hi")
     ∷ input 0 1 (0 ∷ 255 ∷ 255 ∷ 10 ∷ [])
     ∷ []
-unfolding digits_from pairs_of command_of keys_of timed_event_of
+unfolding digits_from pairs_of granted given grant_of command_of keys_of timed_event_of
 a_line_says_characters = refl
 
-pub a_line_that_is_no_event_says_nothing : map said_by (
+pub a_line_that_is_no_event_says_nothing : map (λ line. is_ok (said_by line)) (
     codes "5"
     ∷ codes "5 "
     ∷ codes "5 key"
@@ -110,8 +111,8 @@ pub a_line_that_is_no_event_says_nothing : map said_by (
     ∷ codes "1 grant 1 00410000 data read no"
     ∷ (codes "1 " ++ 0xFF ∷ codes " 1")
     ∷ [])
-    ≡ replicate 39 None
-unfolding digits_from pairs_of command_of keys_of timed_event_of
+    ≡ replicate 39 false
+unfolding digits_from pairs_of granted given grant_of command_of keys_of timed_event_of
 a_line_that_is_no_event_says_nothing = refl
 
 -- a text, so often
@@ -119,9 +120,9 @@ abbrev repeated : ℕ → List ℕ → List ℕ
 repeated zero text = []
 repeated (suc n) text = text ++ repeated n text
 
-pub up_to_256_characters_come_in_together : map (λ pairs. is_some (said_by (codes "5 key 0 " ++ repeated pairs (codes "41")))) (1 ∷ 255 ∷ 256 ∷ 257 ∷ [])
+pub up_to_256_characters_come_in_together : map (λ pairs. is_ok (said_by (codes "5 key 0 " ++ repeated pairs (codes "41")))) (1 ∷ 255 ∷ 256 ∷ 257 ∷ [])
     ≡ true ∷ true ∷ true ∷ false ∷ []
-unfolding digits_from pairs_of command_of keys_of timed_event_of
+unfolding digits_from pairs_of granted given grant_of command_of keys_of timed_event_of
 up_to_256_characters_come_in_together = refl
 
 -- whether an event at this time may follow so many, of which the last was due at the first time
@@ -160,5 +161,5 @@ pub commands_are_numbered_and_characters_stand_one_by_one : with_lines [] nothin
       commands = map stop_at (0 ∷ 1 ∷ 2 ∷ 3 ∷ 4 ∷ 5 ∷ 6 ∷ 7 ∷ 8 ∷ []);
       characters = flat_map pair_at (0 ∷ 1 ∷ 2 ∷ 3 ∷ 4 ∷ 5 ∷ 6 ∷ 7 ∷ 8 ∷ []);
     })
-unfolding digits_from pairs_of command_of keys_of timed_event_of with_line with_lines
+unfolding digits_from pairs_of granted given grant_of command_of keys_of timed_event_of with_line with_lines
 commands_are_numbered_and_characters_stand_one_by_one = refl

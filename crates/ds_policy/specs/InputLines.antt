@@ -1,17 +1,21 @@
 -- What a line of an input says.
-use Rattle.std.specs.Prelude.{codes, ℕ, ◌-◌, ◌^◌, Bool, true, false, ◌&&◌, ◌==◌, nat_le, bytes_eq, List, [], ◌∷◌, Option, Some, None, option_map, if◌then◌else◌}
+use Rattle.std.specs.Prelude.{codes, ℕ, ◌-◌, ◌^◌, Bool, true, false, ◌&&◌, nat_le, bytes_eq, ◌==◌, List, [], ◌∷◌, Option, Some, None, Result, Ok, Err, if◌then◌else◌}
 use Rattle.std.specs.List.{slice_split}
-use Rattle.ds_word.specs.OptionBinding.{◌>>=◌}
+use Rattle.ds_word.specs.ResultBinding.{◌>>=◌}
 use Rattle.ds_policy.specs.declared.command.Command.{Command}
 use Rattle.ds_policy.specs.declared.command.Command.TheVariants.{Grant, Narrow, Revoke, Drop, Resume, Stop}
+use Rattle.ds_policy.specs.declared.events.cause.InputCause.{InputCause}
+use Rattle.ds_policy.specs.declared.events.cause.InputCause.TheVariants.{BadTime, UnknownEvent, WordCount, BadProcess, BadAddress, UnknownPage, BadRight, BadGive, BadLine, BadBytes}
 use Rattle.ds_policy.specs.declared.events.event.Event.{Event}
 use Rattle.ds_policy.specs.declared.events.event.Event.TheVariants.{Order, Input}
 use Rattle.ds_policy.specs.declared.events.event.TimedEvent.{TimedEvent}
+use Rattle.ds_policy.specs.declared.grant.EntryPlace.{EntryPlace}
 use Rattle.ds_policy.specs.declared.grant.Right.{Right}
 use Rattle.ds_policy.specs.declared.grant.Right.TheVariants.{Read, Write}
 use Rattle.ds_policy.specs.declared.policy.PolicyPage.{PolicyPage}
 use Rattle.ds_policy.specs.InputNumbers.{decimal_of, address_of, bytes_of}
 use Rattle.ds_policy.specs.PolicyParts.{page_named}
+use Rattle.ds_policy.specs.Refusal.{or_else, check}
 
 -- the words of a line, with one space between
 abbrev pub words_of : List ℕ → List (List ℕ)
@@ -30,59 +34,80 @@ line_of _ = None
 abbrev pub right_of : List ℕ → Option Right
 right_of word = if bytes_eq word (codes "read") then Some Read else if bytes_eq word (codes "write") then Some Write else None
 
--- nothing, or the one word `give`
-abbrev pub give_of : List (List ℕ) → Option Bool
-give_of [] = Some false
-give_of (word ∷ []) = if bytes_eq word (codes "give") then Some true else None
-give_of _ = None
+-- a process and an address
+abbrev pub place_of : List ℕ → List ℕ → Result EntryPlace InputCause
+place_of p a = do
+  process ← or_else (process_of p) BadProcess
+  address ← or_else (address_of a) BadAddress
+  Ok (record { process = process; address = address })
 
--- a command about a process
-abbrev pub of_process : List ℕ → ℕ → Option Command
-of_process verb p =
-    if bytes_eq verb (codes "resume") then Some (Resume p)
-    else if bytes_eq verb (codes "stop") then Some (Stop p)
-    else None
+-- a grant of a page, which may be given on
+unfoldable pub granted : List PolicyPage → List ℕ → List ℕ → List ℕ → List ℕ → Bool → Result Command InputCause
+granted pages p a name r give = do
+  place ← place_of p a
+  page ← or_else (page_named pages name) UnknownPage
+  right ← or_else (right_of r) BadRight
+  Ok (Grant place.process place.address page right give)
 
--- a command about an entry
-abbrev pub of_entry : List ℕ → ℕ → ℕ → Option Command
-of_entry verb p address =
-    if bytes_eq verb (codes "narrow") then Some (Narrow p address)
-    else if bytes_eq verb (codes "revoke") then Some (Revoke p address)
-    else if bytes_eq verb (codes "drop") then Some (Drop p address)
-    else None
+-- a grant with a word after its right
+unfoldable pub given : List PolicyPage → List ℕ → List ℕ → List ℕ → List ℕ → List ℕ → Result Command InputCause
+given pages p a name r word = do
+  command ← granted pages p a name r true
+  known ← check (bytes_eq word (codes "give")) BadGive
+  Ok command
+
+-- of the words after `grant`: a process, an address, a page and a right, and perhaps `give`
+unfoldable pub grant_of : List PolicyPage → List (List ℕ) → Result Command InputCause
+grant_of pages (p ∷ a ∷ name ∷ r ∷ []) = granted pages p a name r false
+grant_of pages (p ∷ a ∷ name ∷ r ∷ give ∷ []) = given pages p a name r give
+grant_of pages _ = Err WordCount
+
+-- of the words after a verb about an entry
+abbrev pub entry_in : List (List ℕ) → Result EntryPlace InputCause
+entry_in (p ∷ a ∷ []) = place_of p a
+entry_in _ = Err WordCount
+
+-- of the words after a verb about a process
+abbrev pub process_in : List (List ℕ) → Result ℕ InputCause
+process_in (p ∷ []) = or_else (process_of p) BadProcess
+process_in _ = Err WordCount
 
 -- the command of a verb and the words after it
-unfoldable pub command_of : List PolicyPage → List ℕ → List (List ℕ) → Option Command
-command_of pages verb (p ∷ []) = process_of p >>= of_process verb
-command_of pages verb (p ∷ a ∷ []) = do
-  process ← process_of p
-  address ← address_of a
-  of_entry verb process address
-command_of pages verb (p ∷ a ∷ name ∷ r ∷ rest) = do
-  process ← process_of p
-  address ← address_of a
-  page ← page_named pages name
-  right ← right_of r
-  give ← give_of rest
-  if bytes_eq verb (codes "grant") then Some (Grant process address page right give) else None
-command_of pages verb _ = None
+unfoldable pub command_of : List PolicyPage → List ℕ → List (List ℕ) → Result Command InputCause
+command_of pages verb words =
+    if bytes_eq verb (codes "grant") then grant_of pages words
+    else if bytes_eq verb (codes "narrow") then entry_in words >>= (λ e. Ok (Narrow e.process e.address))
+    else if bytes_eq verb (codes "revoke") then entry_in words >>= (λ e. Ok (Revoke e.process e.address))
+    else if bytes_eq verb (codes "drop") then entry_in words >>= (λ e. Ok (Drop e.process e.address))
+    else if bytes_eq verb (codes "resume") then process_in words >>= (λ p. Ok (Resume p))
+    else if bytes_eq verb (codes "stop") then process_in words >>= (λ p. Ok (Stop p))
+    else Err UnknownEvent
 
 -- the characters of the words after `key`
-unfoldable pub keys_of : List (List ℕ) → Option Event
+unfoldable pub keys_of : List (List ℕ) → Result Event InputCause
 keys_of (l ∷ digits ∷ []) = do
-  line ← line_of l
-  keys ← bytes_of digits
-  Some (Input line keys)
-keys_of _ = None
+  line ← or_else (line_of l) BadLine
+  keys ← or_else (bytes_of digits) BadBytes
+  Ok (Input line keys)
+keys_of _ = Err WordCount
 
 -- the event that a verb and the words after it make
-abbrev pub event_of : List PolicyPage → List ℕ → List (List ℕ) → Option Event
-event_of pages verb words = if bytes_eq verb (codes "key") then keys_of words else option_map (λ c. Order c) (command_of pages verb words)
+abbrev pub event_of : List PolicyPage → List ℕ → List (List ℕ) → Result Event InputCause
+event_of pages verb words = if bytes_eq verb (codes "key") then keys_of words else command_of pages verb words >>= (λ c. Ok (Order c))
+
+-- the event of the words after a time
+abbrev pub event_in : List PolicyPage → List (List ℕ) → Result Event InputCause
+event_in pages [] = Err WordCount
+event_in pages (verb ∷ words) = event_of pages verb words
+
+-- the event of a time and the words after it
+abbrev pub event_at : List PolicyPage → List ℕ → List (List ℕ) → Result TimedEvent InputCause
+event_at pages t words = do
+  time ← or_else (decimal_of 1000000000 t) BadTime
+  event ← event_in pages words
+  Ok (record { time = time; event = event })
 
 -- the event of a line's words
-unfoldable pub timed_event_of : List PolicyPage → List (List ℕ) → Option TimedEvent
-timed_event_of pages (t ∷ verb ∷ rest) = do
-  time ← decimal_of 1000000000 t
-  event ← event_of pages verb rest
-  Some (record { time = time; event = event })
-timed_event_of pages _ = None
+unfoldable pub timed_event_of : List PolicyPage → List (List ℕ) → Result TimedEvent InputCause
+timed_event_of pages [] = Err BadTime
+timed_event_of pages (t ∷ words) = event_at pages t words

@@ -5,7 +5,7 @@ use Rattle.ds_policy.specs.declared.grant.Right.TheVariants.{Read}
 use Rattle.ds_policy.specs.declared.policy.PolicyPage.{PolicyPage}
 use Rattle.ds_word.specs.Digits.{digits_from}
 use Rattle.ds_policy.specs.InputNumbers.{pairs_of}
-use Rattle.ds_policy.specs.InputLines.{command_of, keys_of, timed_event_of}
+use Rattle.ds_policy.specs.InputLines.{granted, given, grant_of, command_of, keys_of, timed_event_of}
 use Rattle.ds_policy.specs.InputText.{with_line, with_lines, input_of}
 
 -- the pages of a policy that names one zero page
@@ -16,11 +16,11 @@ characters_and_a_grant : input_of one_page (codes "5 key 0 4869\n\n# x\n7 grant 
   commands = record { time = 7; number = 1; command = Grant 1 0x41000a 0 Read true } ∷ [];
   characters = record { time = 5; line = 0; byte = 72 } ∷ record { time = 5; line = 0; byte = 105 } ∷ [];
 })
-unfolding digits_from pairs_of command_of keys_of timed_event_of with_line with_lines
+unfolding digits_from pairs_of granted given grant_of command_of keys_of timed_event_of with_line with_lines
 characters_and_a_grant = refl
 
 a_time_that_falls : input_of [] (codes "5 key 0 41\n4 key 0 41") ≡ Err 2
-unfolding digits_from pairs_of command_of keys_of timed_event_of with_line with_lines
+unfolding digits_from pairs_of granted given grant_of command_of keys_of timed_event_of with_line with_lines
 a_time_that_falls = refl
 
 no_bytes : input_of [] [] ≡ Ok (record { commands = []; characters = [] })
@@ -28,13 +28,13 @@ unfolding with_line with_lines
 no_bytes = refl
 
 an_empty_line_is_skipped : input_of [] (codes "\n5 key 0 41") ≡ Ok (record { commands = []; characters = record { time = 5; line = 0; byte = 65 } ∷ [] })
-unfolding digits_from pairs_of command_of keys_of timed_event_of with_line with_lines
+unfolding digits_from pairs_of granted given grant_of command_of keys_of timed_event_of with_line with_lines
 an_empty_line_is_skipped = refl
 
 a_command_needs_no_page : input_of [] (codes "\n5 stop 1") ≡ Ok (record { commands = record { time = 5; number = 1; command = Stop 1 } ∷ []; characters = [] })
-unfolding digits_from pairs_of command_of keys_of timed_event_of with_line with_lines
+unfolding digits_from pairs_of granted given grant_of command_of keys_of timed_event_of with_line with_lines
 a_command_needs_no_page = refl
 
 a_grant_is_over_a_page_of_the_policy : input_of one_page (codes "\n5 grant 1 00400000 code read") ≡ Err 2
-unfolding digits_from pairs_of command_of keys_of timed_event_of with_line with_lines
+unfolding digits_from pairs_of granted given grant_of command_of keys_of timed_event_of with_line with_lines
 a_grant_is_over_a_page_of_the_policy = refl

@@ -1,16 +1,22 @@
 -- What an input says: its commands and characters, or the first line that is wrong.
-use Rattle.std.specs.Prelude.{◌≡◌, ℕ, ◌+◌, Bool, ◌&&◌, ◌||◌, ◌==◌, nat_le, nat_lt, slice_index, List, [], ◌∷◌, ◌++◌, length, map, Option, Some, None, Result, Ok, Err, if◌then◌else◌}
+use Rattle.std.specs.Prelude.{◌≡◌, ℕ, ◌+◌, Bool, ◌&&◌, ◌||◌, ◌==◌, nat_le, nat_lt, slice_index, List, [], ◌∷◌, ◌++◌, length, map, unwrap_or, Result, Ok, Err, if◌then◌else◌}
 use Rattle.std.specs.List.{slice_split}
-use Rattle.ds_word.specs.OptionBinding.{◌>>=◌}
+use Rattle.ds_word.specs.ResultBinding.{◌>>=◌}
 use Rattle.ds_policy.specs.declared.command.Command.{Command}
 use Rattle.ds_policy.specs.declared.command.TimedCommand.{TimedCommand}
 use Rattle.ds_policy.specs.declared.command.Character.{Character}
+use Rattle.ds_policy.specs.declared.events.cause.InputCause.{InputCause}
+use Rattle.ds_policy.specs.declared.events.cause.InputCause.TheVariants.{EarlierTime, TooManyEvents}
+use Rattle.ds_policy.specs.declared.events.cause.InputReason.{InputReason}
 use Rattle.ds_policy.specs.declared.events.event.Event.{Event}
 use Rattle.ds_policy.specs.declared.events.event.Event.TheVariants.{Order, Input}
+use Rattle.ds_policy.specs.declared.events.event.TimedEvent.{TimedEvent}
 use Rattle.ds_policy.specs.declared.events.fault.EventsFault.{EventsFault}
 use Rattle.ds_policy.specs.declared.events.fault.EventsFault.TheVariants.{InputFault, Memory}
 use Rattle.ds_policy.specs.declared.policy.PolicyPage.{PolicyPage}
 use Rattle.ds_policy.specs.Value.{InputValue}
+use Rattle.ds_policy.specs.Refusal.{told_as}
+use Rattle.ds_policy.specs.InputLayout.{layout_cause}
 use Rattle.ds_policy.specs.InputLines.{words_of, timed_event_of}
 
 -- what lines have said so far: the time of the last event, how many events there were, and what they are
@@ -45,25 +51,34 @@ with_event s time (Input line keys) = with_characters s time line keys
 abbrev pub follows : Said → ℕ → Bool
 follows s time = nat_le s.latest time && nat_lt s.events 4096
 
+-- why an event at this time may not follow
+abbrev pub order_cause : Said → ℕ → InputCause
+order_cause s time = if nat_lt time s.latest then EarlierTime else TooManyEvents
+
+-- with an event, where it may follow
+abbrev pub with_timed : Said → TimedEvent → Result Said InputCause
+with_timed s e = if follows s e.time then Ok (with_event s e.time e.event) else Err (order_cause s e.time)
+
 -- an empty line, or a comment
 abbrev pub is_skipped : List ℕ → Bool
 is_skipped line = (length line == 0) || (slice_index line 0 == 35)
 
--- with what a line says
-unfoldable pub with_line : List PolicyPage → Said → List ℕ → Option Said
-with_line pages s line =
-    if is_skipped line then Some s
-    else timed_event_of pages (words_of line) >>= (λ e. if follows s e.time then Some (with_event s e.time e.event) else None)
+-- with the event of a line's words
+abbrev pub with_words : List PolicyPage → Said → List ℕ → Result Said InputCause
+with_words pages s line = timed_event_of pages (words_of line) >>= with_timed s
 
--- goes on with the value, or names the wrong line where there is none
-abbrev pub or_fault : {A B : Type 0} → Option A → ℕ → (A → Result B ℕ) → Result B ℕ
-or_fault None n f = Err n
-or_fault (Some x) n f = f x
+-- why line n is refused: for what stands between its words, or else for a cause
+abbrev pub reason_at : ℕ → List ℕ → InputCause → InputReason
+reason_at n line cause = record { line = n; cause = unwrap_or (layout_cause line) cause }
 
--- with what lines say, of which the first is line n; or the number of the first that is wrong
-unfoldable pub with_lines : List PolicyPage → Said → ℕ → List (List ℕ) → Result Said ℕ
+-- with what line n says
+unfoldable pub with_line : List PolicyPage → Said → ℕ → List ℕ → Result Said InputReason
+with_line pages s n line = if is_skipped line then Ok s else told_as (reason_at n line) (with_words pages s line)
+
+-- with what lines say, of which the first is line n; or why the first that is wrong is refused
+unfoldable pub with_lines : List PolicyPage → Said → ℕ → List (List ℕ) → Result Said InputReason
 with_lines pages s n [] = Ok s
-with_lines pages s n (line ∷ lines) = or_fault (with_line pages s line) n (λ next. with_lines pages next (n + 1) lines)
+with_lines pages s n (line ∷ lines) = with_line pages s n line >>= (λ next. with_lines pages next (n + 1) lines)
 
 -- what stands between line feeds; after the last one stands an empty line or one that isn't ended
 abbrev pub lines_of : List ℕ → List (List ℕ)
@@ -73,14 +88,13 @@ lines_of text = slice_split (λ b. b == 10) text
 abbrev pub input_in : Said → InputValue
 input_in s = record { commands = s.commands; characters = s.characters }
 
--- the input, or its first wrong line
-abbrev pub as_input : Result Said ℕ → Result InputValue ℕ
-as_input (Ok s) = Ok (input_in s)
-as_input (Err line) = Err line
+-- what a text says, by the policy's pages, or why its first wrong line is refused
+abbrev pub read_input : List PolicyPage → List ℕ → Result InputValue InputReason
+read_input pages text = with_lines pages nothing_said 1 (lines_of text) >>= (λ s. Ok (input_in s))
 
--- what a text says, by the policy's pages, or the number of its first wrong line
+-- what a text says, or the number of its first wrong line
 abbrev pub input_of : List PolicyPage → List ℕ → Result InputValue ℕ
-input_of pages text = as_input (with_lines pages nothing_said 1 (lines_of text))
+input_of pages text = told_as (λ (r : InputReason). r.line) (read_input pages text)
 
 -- the reading answered what the text says, unless memory ran out
 abbrev pub Gives : Result InputValue EventsFault → Result InputValue ℕ → Type 0

@@ -13,12 +13,16 @@ pub mod PolicyText
 pub mod PolicyFacts
 pub mod PolicyRows
 pub mod PolicyBounds
+pub mod PolicyCauseRows
 pub mod Refusal
 pub mod FirstTable
+pub mod Words
 pub mod InputNumbers
+pub mod InputLayout
 pub mod InputLines
 pub mod InputText
 pub mod KeyLines
 pub mod InputRows
+pub mod InputCauseRows
 pub mod InputEvents
 pub mod InputFacts

@@ -1,5 +1,5 @@
 -- Worked rows of the checks of a policy at their bounds.
-use Rattle.std.specs.Prelude.{codes, refl, ◌≡◌, ℕ, zero, suc, ◌+◌, ◌*◌, ◌/◌, ◌%◌, pos, negsuc, nat_lt, Float, Bool, true, false, List, [], ◌∷◌, ◌++◌, length, map, Option, Some, None, option_and_then, Result, Ok, Err, is_some, if◌then◌else◌}
+use Rattle.std.specs.Prelude.{codes, refl, ◌≡◌, ℕ, zero, suc, ◌+◌, ◌*◌, ◌/◌, ◌%◌, pos, negsuc, nat_lt, Float, Bool, true, false, List, [], ◌∷◌, ◌++◌, length, map, Option, Some, None, option_map, Result, Ok, Err, is_some, if◌then◌else◌}
 use Rattle.toml.specs.Data.{Data, string, integer, boolean, float, array, table, Items, no_items, item, member, no_members}
 use Rattle.toml.specs.Parse.{parse_document}
 use Rattle.toml.proofs.OnLiterals.{toml_on_literals}
@@ -7,8 +7,11 @@ use Rattle.ds_policy.specs.declared.policy.PolicyPage.{PolicyPage}
 use Rattle.ds_policy.specs.declared.grant.Right.{Right}
 use Rattle.ds_policy.specs.declared.grant.Right.TheVariants.{Nothing, Read, Write}
 use Rattle.ds_policy.specs.Document.{items_between}
-use Rattle.ds_policy.specs.Refusal.{PolicyRefusal, limit, bad_rule}
-use Rattle.ds_policy.specs.PolicyParts.{process_of, source_of, page_of, new_page, grant_of, rule_of, new_rule, rate_of}
+use Rattle.ds_policy.specs.declared.cause.PolicyReason.{PolicyReason}
+use Rattle.ds_policy.specs.declared.cause.PolicyReason.TheVariants.{ProcessCount, PageCount, Rule}
+use Rattle.ds_policy.specs.declared.cause.RuleCause.{RuleCause}
+use Rattle.ds_policy.specs.declared.cause.RuleCause.TheVariants.{BadProcess, BadAddress, BadPage, BadGive, BadUntil, PageOfNone, UntilOfNone, SamePlace, TooManyRules, FifthRegion}
+use Rattle.ds_policy.specs.PolicyParts.{process_of, source_of, page_of, new_page, grant_of, rule_of, beside, new_rule, rate_of}
 use Rattle.ds_policy.specs.PolicyText.{each_of, processes_of, pages_of, rules_from}
 
 -- so many items, of which the first is that of this number
@@ -21,9 +24,9 @@ abbrev array_of : (ℕ → Data) → ℕ → Data
 array_of one n = array (items_from one 0 n)
 
 -- how many there are, or why they are refused
-abbrev count : {X : Type 0} → Result (List X) PolicyRefusal → Result ℕ PolicyRefusal
+abbrev count : {X : Type 0} → Result (List X) PolicyReason → Result ℕ PolicyReason
 count (Ok xs) = Ok (length xs)
-count (Err refusal) = Err refusal
+count (Err reason) = Err reason
 
 pub no_rate_is_0 : rate_of None ≡ Some 0
 no_rate_is_0 = refl
@@ -43,11 +46,11 @@ abbrev process_from : ℕ → Data
 process_from start = table (member (codes "line") (integer (pos 3)) (member (codes "start") (integer (pos start)) no_members))
 
 -- so many processes, each with a start of its own
-abbrev processes : ℕ → Result ℕ PolicyRefusal
+abbrev processes : ℕ → Result ℕ PolicyReason
 processes n = count (processes_of (Some (array_of process_from n)))
 
 pub there_are_1_to_100_processes : map processes (0 ∷ 1 ∷ 100 ∷ 101 ∷ [])
-    ≡ Err (limit (codes "process")) ∷ Ok 1 ∷ Ok 100 ∷ Err (limit (codes "process")) ∷ []
+    ≡ Err ProcessCount ∷ Ok 1 ∷ Ok 100 ∷ Err ProcessCount ∷ []
 unfolding process_of each_of processes_of
 there_are_1_to_100_processes = refl
 
@@ -60,11 +63,11 @@ abbrev page_from : ℕ → Data
 page_from n = table (member (codes "name") (string (character_of (n / 36) ∷ character_of (n % 36) ∷ [])) no_members)
 
 -- under so many frames so many pages, each with a name of its own
-abbrev pages : ℕ → ℕ → Result ℕ PolicyRefusal
+abbrev pages : ℕ → ℕ → Result ℕ PolicyReason
 pages frames n = count (pages_of frames (Some (array_of page_from n)))
 
 pub there_are_as_many_pages_as_frames_at_most : pages 1 0 ∷ pages 1 1 ∷ pages 1 2 ∷ pages 16 16 ∷ pages 16 17 ∷ []
-    ≡ Ok 0 ∷ Ok 1 ∷ Err (limit (codes "page")) ∷ Ok 16 ∷ Err (limit (codes "page")) ∷ []
+    ≡ Ok 0 ∷ Ok 1 ∷ Err PageCount ∷ Ok 16 ∷ Err PageCount ∷ []
 unfolding source_of page_of new_page each_of pages_of
 there_are_as_many_pages_as_frames_at_most = refl
 
@@ -92,7 +95,7 @@ rules_at [] = no_items
 rules_at (place ∷ places) = item (rule_at place) (rules_at places)
 
 -- how many rules there are, where two processes and one page are named, or which is refused
-abbrev rules : List (ℕ × ℕ) → Result ℕ PolicyRefusal
+abbrev rules : List (ℕ × ℕ) → Result ℕ PolicyReason
 rules places = count (rules_from 1 2 data_page (rules_at places))
 
 -- one page after the other, so many
@@ -100,9 +103,9 @@ abbrev places_from : ℕ → ℕ → List (ℕ × ℕ)
 places_from first zero = []
 places_from first (suc n) = (1, first * 4096) ∷ places_from (first + 1) n
 
-pub no_rule_is_the_257th_of_its_process : map (λ last. rules (places_from 0 256 ++ last)) ([] ∷ ((2, 0) ∷ []) ∷ ((2, 0) ∷ (1, 256 * 4096) ∷ []) ∷ [])
-    ≡ Ok 256 ∷ Ok 257 ∷ Err (bad_rule 258) ∷ []
-unfolding grant_of rule_of new_rule each_of
+pub no_rule_is_the_257th_of_its_process : map (λ last. rules (places_from 0 256 ++ last)) ([] ∷ ((2, 0) ∷ []) ∷ ((2, 0) ∷ (1, 256 * 4096) ∷ []) ∷ ((1, 4096) ∷ []) ∷ [])
+    ≡ Ok 256 ∷ Ok 257 ∷ Err (Rule 258 TooManyRules) ∷ Err (Rule 257 SamePlace) ∷ []
+unfolding grant_of rule_of beside new_rule each_of
 no_rule_is_the_257th_of_its_process = refl
 
 -- places of process 1 in four regions
@@ -110,35 +113,35 @@ abbrev four_regions : List (ℕ × ℕ)
 four_regions = (1, 0) ∷ (1, 0x00400000) ∷ (1, 0x7FFFF000) ∷ (1, 0x00BFF000) ∷ []
 
 pub no_rule_opens_a_fifth_region_of_its_process : map (λ last. rules (four_regions ++ last ∷ [])) ((1, 0x00001000) ∷ (1, 0x003FF000) ∷ (1, 0x7FC00000) ∷ (1, 0x7FBFF000) ∷ (1, 0x00C00000) ∷ (2, 0x00C00000) ∷ [])
-    ≡ Ok 5 ∷ Ok 5 ∷ Ok 5 ∷ Err (bad_rule 5) ∷ Err (bad_rule 5) ∷ Ok 5 ∷ []
-unfolding grant_of rule_of new_rule each_of
+    ≡ Ok 5 ∷ Ok 5 ∷ Ok 5 ∷ Err (Rule 5 FifthRegion) ∷ Err (Rule 5 FifthRegion) ∷ Ok 5 ∷ []
+unfolding grant_of rule_of beside new_rule each_of
 no_rule_opens_a_fifth_region_of_its_process = refl
 
 pub no_two_rules_have_one_process_and_address : map (λ second. rules ((1, 4096) ∷ second ∷ [])) ((1, 4096) ∷ (2, 4096) ∷ (1, 8192) ∷ (3, 4096) ∷ (1, 4097) ∷ [])
-    ≡ Err (bad_rule 2) ∷ Ok 2 ∷ Ok 2 ∷ Err (bad_rule 2) ∷ Err (bad_rule 2) ∷ []
-unfolding grant_of rule_of new_rule each_of
+    ≡ Err (Rule 2 SamePlace) ∷ Ok 2 ∷ Ok 2 ∷ Err (Rule 2 BadProcess) ∷ Err (Rule 2 BadAddress) ∷ []
+unfolding grant_of rule_of beside new_rule each_of
 no_two_rules_have_one_process_and_address = refl
 
--- the page, the flag and the end that keys say under a right in a version
-abbrev granted : ℕ → Right → List ℕ → Option (Option ℕ × Bool × Option ℕ)
-granted version right keys = option_and_then (grant_of version data_page right) (parse_document keys)
+-- the page, the flag and the end that keys say under a right, if they are a document
+abbrev granted : Right → List ℕ → Option (Result (Option ℕ × Bool × Option ℕ) RuleCause)
+granted right keys = option_map (grant_of data_page right) (parse_document keys)
 
-pub a_rule_without_a_right_has_no_page : map (granted 2 Nothing) (codes "right = \"none\"" ∷ codes "page = \"data\"" ∷ codes "give = false" ∷ codes "until = 1" ∷ [])
-    ≡ Some (None, false, None) ∷ None ∷ None ∷ None ∷ []
+pub a_rule_without_a_right_has_no_page : map (granted Nothing) (codes "right = \"none\"" ∷ codes "page = \"data\"" ∷ codes "give = false" ∷ codes "until = 1" ∷ [])
+    ≡ Some (Ok (None, false, None)) ∷ Some (Err PageOfNone) ∷ Some (Err PageOfNone) ∷ Some (Err UntilOfNone) ∷ []
 unfolding toml_on_literals grant_of
 a_rule_without_a_right_has_no_page = refl
 
-pub a_rule_to_read_has_a_page : map (granted 1 Read) (codes "page = \"data\"" ∷ codes "page = \"data\"\ngive = false" ∷ codes "page = \"data\"\ngive = 1" ∷ codes "page = \"more\"" ∷ codes "page = \"data\"\nuntil = 1" ∷ [])
-    ≡ Some (Some 0, false, None) ∷ Some (Some 0, false, None) ∷ None ∷ None ∷ None ∷ []
+pub a_rule_to_read_has_a_page : map (granted Read) (codes "page = \"data\"" ∷ codes "page = \"data\"\ngive = false" ∷ codes "page = \"data\"\ngive = 1" ∷ codes "page = \"more\"" ∷ [])
+    ≡ Some (Ok (Some 0, false, None)) ∷ Some (Ok (Some 0, false, None)) ∷ Some (Err BadGive) ∷ Some (Err BadPage) ∷ []
 unfolding toml_on_literals grant_of
 a_rule_to_read_has_a_page = refl
 
-pub a_rule_to_write_has_a_page : map (granted 1 Write) (codes "page = \"data\"\ngive = true" ∷ codes "give = true" ∷ [])
-    ≡ Some (Some 0, true, None) ∷ None ∷ []
+pub a_rule_to_write_has_a_page : map (granted Write) (codes "page = \"data\"\ngive = true" ∷ codes "give = true" ∷ [])
+    ≡ Some (Ok (Some 0, true, None)) ∷ Some (Err BadPage) ∷ []
 unfolding toml_on_literals grant_of
 a_rule_to_write_has_a_page = refl
 
-pub a_rule_of_version_2_may_have_an_end : map (λ end. granted 2 Write (codes "page = \"data\"\nuntil = " ++ end)) (codes "1" ∷ codes "1000000000" ∷ codes "0" ∷ codes "1000000001" ∷ codes "-1" ∷ codes "true" ∷ [])
-    ≡ Some (Some 0, false, Some 1) ∷ Some (Some 0, false, Some 1000000000) ∷ None ∷ None ∷ None ∷ None ∷ []
+pub a_rule_may_have_an_end : map (λ end. granted Write (codes "page = \"data\"\nuntil = " ++ end)) (codes "1" ∷ codes "1000000000" ∷ codes "0" ∷ codes "1000000001" ∷ codes "-1" ∷ codes "true" ∷ [])
+    ≡ Some (Ok (Some 0, false, Some 1)) ∷ Some (Ok (Some 0, false, Some 1000000000)) ∷ Some (Err BadUntil) ∷ Some (Err BadUntil) ∷ Some (Err BadUntil) ∷ Some (Err BadUntil) ∷ []
 unfolding toml_on_literals grant_of
-a_rule_of_version_2_may_have_an_end = refl
+a_rule_may_have_an_end = refl

@@ -1,10 +1,17 @@
 -- What the parts of a policy's document mean.
-use Rattle.std.specs.Prelude.{codes, ℕ, pos, Bool, false, not, ◌&&◌, ◌||◌, ◌==◌, ◌%◌, ◌^◌, ◌-◌, nat_le, nat_lt, bytes_eq, List, [], ◌∷◌, ◌++◌, length, map, filter, Option, Some, None, count_by, position, option_map, if◌then◌else◌}
+use Rattle.std.specs.Prelude.{codes, ℕ, pos, Bool, false, not, ◌&&◌, ◌||◌, ◌==◌, ◌%◌, ◌^◌, ◌-◌, nat_le, nat_lt, bytes_eq, List, [], ◌∷◌, ◌++◌, length, map, filter, Option, Some, None, is_some, count_by, position, option_map, Result, Ok, Err, if◌then◌else◌}
 use Rattle.std.specs.List.{list_any, list_all}
-use Rattle.ds_word.specs.OptionBinding.{◌>>=◌}
+use Rattle.ds_word.specs.ResultBinding.{◌>>=◌}
 use Rattle.toml.specs.Data.{Data, integer, Members, get_member, as_table, as_bool}
-use Rattle.ds_policy.specs.Document.{when, is_among, has_only, number_in, number_at, text_at}
+use Rattle.ds_policy.specs.Document.{is_among, has_only, number_in, number_at, text_at}
+use Rattle.ds_policy.specs.Refusal.{or_else, check}
 use Rattle.ds_policy.specs.Grants.{region, count_distinct}
+use Rattle.ds_policy.specs.declared.cause.ProcessCause.{ProcessCause}
+use Rattle.ds_policy.specs.declared.cause.ProcessCause.TheVariants as process
+use Rattle.ds_policy.specs.declared.cause.PageCause.{PageCause}
+use Rattle.ds_policy.specs.declared.cause.PageCause.TheVariants as page
+use Rattle.ds_policy.specs.declared.cause.RuleCause.{RuleCause}
+use Rattle.ds_policy.specs.declared.cause.RuleCause.TheVariants as rule
 use Rattle.ds_policy.specs.declared.policy.PolicyProcess.{PolicyProcess}
 use Rattle.ds_policy.specs.declared.policy.PolicyPage.{PolicyPage}
 use Rattle.ds_policy.specs.declared.policy.Source.{Source}
@@ -13,13 +20,13 @@ use Rattle.ds_policy.specs.declared.grant.Right.{Right}
 use Rattle.ds_policy.specs.declared.grant.Right.TheVariants.{Nothing, Read, Write}
 
 -- a process of the policy
-unfoldable pub process_of : Data → Option PolicyProcess
+unfoldable pub process_of : Data → Result PolicyProcess ProcessCause
 process_of d = do
-  ms ← as_table d
-  known ← when (has_only (codes "start" ∷ codes "line" ∷ []) ms)
-  start ← number_at (codes "start") 0 4294967295 ms
-  line ← number_at (codes "line") 0 3 ms
-  Some (record { start = start; line = line })
+  ms ← or_else (as_table d) process.NotTable
+  known ← check (has_only (codes "start" ∷ codes "line" ∷ []) ms) process.OtherKey
+  start ← or_else (number_at (codes "start") 0 4294967295 ms) process.BadStart
+  line ← or_else (number_at (codes "line") 0 3 ms) process.BadLine
+  Ok (record { start = start; line = line })
 
 -- it is the integer 0
 abbrev pub is_zero : Data → Bool
@@ -48,35 +55,35 @@ abbrev pub is_source_name : List ℕ → Bool
 is_source_name text = (nat_le 1 (length text) && nat_le (length text) 64) && list_all is_source_byte text
 
 -- where a page's bytes come from: nowhere, or a part of a source
-unfoldable pub source_of : Members → Option (Option Source)
+unfoldable pub source_of : Members → Result (Option Source) PageCause
 source_of ms =
-    if has_only (codes "name" ∷ []) ms then Some None
+    if has_only (codes "name" ∷ []) ms then Ok None
     else do
-      known ← when (has_only (codes "name" ∷ codes "source" ∷ codes "part" ∷ []) ms)
-      name ← text_at (codes "source") ms
-      good ← when (is_source_name name)
-      part ← number_at (codes "part") 0 15 ms
-      Some (Some (record { name = name; part = part }))
+      name ← or_else (text_at (codes "source") ms) page.BadSource
+      good ← check (is_source_name name) page.BadSource
+      part ← or_else (number_at (codes "part") 0 15 ms) page.BadPart
+      Ok (Some (record { name = name; part = part }))
 
 -- a page of the policy
-unfoldable pub page_of : Data → Option PolicyPage
+unfoldable pub page_of : Data → Result PolicyPage PageCause
 page_of d = do
-  ms ← as_table d
-  name ← text_at (codes "name") ms
-  good ← when (is_name name)
+  ms ← or_else (as_table d) page.NotTable
+  known ← check (has_only (codes "name" ∷ codes "source" ∷ codes "part" ∷ []) ms) page.OtherKey
+  name ← or_else (text_at (codes "name") ms) page.BadName
+  good ← check (is_name name) page.BadName
   source ← source_of ms
-  Some (record { name = name; source = source })
+  Ok (record { name = name; source = source })
 
 -- two pages have one name
 abbrev pub has_same_name : PolicyPage → PolicyPage → Bool
 has_same_name p q = bytes_eq p.name q.name
 
 -- a page whose name none of those before it has
-unfoldable pub new_page : List PolicyPage → Data → Option PolicyPage
+unfoldable pub new_page : List PolicyPage → Data → Result PolicyPage PageCause
 new_page before d = do
   p ← page_of d
-  other ← when (not (list_any (λ (q : PolicyPage). has_same_name q p) before))
-  Some p
+  other ← check (not (list_any (λ (q : PolicyPage). has_same_name q p) before)) page.SameName
+  Ok p
 
 -- the number of the page of this name
 abbrev pub page_named : List PolicyPage → List ℕ → Option ℕ
@@ -96,52 +103,60 @@ abbrev pub until_of : Option Data → Option (Option ℕ)
 until_of None = Some None
 until_of (Some d) = option_map (λ end. Some end) (number_in 1 1000000000 d)
 
--- the keys of a rule with a right; version 2 has ends
-abbrev pub rule_keys : ℕ → List (List ℕ)
-rule_keys version =
-    codes "process" ∷ codes "address" ∷ codes "right" ∷ codes "page" ∷ codes "give" ∷ (if version == 2 then codes "until" ∷ [] else [])
+-- a rule of this version may have an end, or has none
+abbrev pub may_end : ℕ → Members → Bool
+may_end version ms = not (is_some (get_member (codes "until") ms)) || (version == 2)
+
+-- nothing stands beside a right `none`
+abbrev pub nothing_of : Members → Result (Option ℕ × Bool × Option ℕ) RuleCause
+nothing_of ms =
+    if has_only (codes "process" ∷ codes "address" ∷ codes "right" ∷ []) ms then Ok (None, false, None)
+    else if has_only (codes "process" ∷ codes "address" ∷ codes "right" ∷ codes "until" ∷ []) ms then Err rule.UntilOfNone
+    else Err rule.PageOfNone
 
 -- the page, the flag and the end of a rule with this right
-unfoldable pub grant_of : ℕ → List PolicyPage → Right → Members → Option (Option ℕ × Bool × Option ℕ)
-grant_of version pages Nothing ms = do
-  known ← when (has_only (codes "process" ∷ codes "address" ∷ codes "right" ∷ []) ms)
-  Some (None, false, None)
-grant_of version pages right ms = do
-  known ← when (has_only (rule_keys version) ms)
-  name ← text_at (codes "page") ms
-  page ← page_named pages name
-  give ← flag_of (get_member (codes "give") ms)
-  until ← until_of (get_member (codes "until") ms)
-  Some (Some page, give, until)
+unfoldable pub grant_of : List PolicyPage → Right → Members → Result (Option ℕ × Bool × Option ℕ) RuleCause
+grant_of pages Nothing ms = nothing_of ms
+grant_of pages right ms = do
+  name ← or_else (text_at (codes "page") ms) rule.BadPage
+  page ← or_else (page_named pages name) rule.BadPage
+  give ← or_else (flag_of (get_member (codes "give") ms)) rule.BadGive
+  until ← or_else (until_of (get_member (codes "until") ms)) rule.BadUntil
+  Ok (Some page, give, until)
 
 -- the regions of a process's rules
 abbrev pub regions_of : ℕ → List PolicyRule → List ℕ
 regions_of process rules = map (λ (r : PolicyRule). region r.address) (filter (λ (r : PolicyRule). r.process == process) rules)
 
 -- a rule of the policy, by itself
-unfoldable pub rule_of : ℕ → ℕ → List PolicyPage → Data → Option PolicyRule
+unfoldable pub rule_of : ℕ → ℕ → List PolicyPage → Data → Result PolicyRule RuleCause
 rule_of version processes pages d = do
-  ms ← as_table d
-  process ← number_at (codes "process") 1 processes ms
-  address ← number_at (codes "address") 0 (2 ^ 31 - 1) ms
-  aligned ← when (address % 4096 == 0)
-  named ← text_at (codes "right") ms
-  right ← right_named named
-  grant ← grant_of version pages right ms
-  Some (record { process = process; address = address; right = right; page = grant.0; give = grant.1; until = grant.2 })
+  ms ← or_else (as_table d) rule.NotTable
+  known ← check (has_only (codes "process" ∷ codes "address" ∷ codes "right" ∷ codes "page" ∷ codes "give" ∷ codes "until" ∷ []) ms) rule.OtherKey
+  dated ← check (may_end version ms) rule.UntilOfVersion1
+  process ← or_else (number_at (codes "process") 1 processes ms) rule.BadProcess
+  address ← or_else (number_at (codes "address") 0 (2 ^ 31 - 1) ms) rule.BadAddress
+  aligned ← check (address % 4096 == 0) rule.BadAddress
+  named ← or_else (text_at (codes "right") ms) rule.BadRight
+  right ← or_else (right_named named) rule.BadRight
+  grant ← grant_of pages right ms
+  Ok (record { process = process; address = address; right = right; page = grant.0; give = grant.1; until = grant.2 })
 
 -- two rules are about one process and one address
 abbrev pub has_same_place : PolicyRule → PolicyRule → Bool
 has_same_place r s = r.process == s.process && r.address == s.address
 
--- a rule at a place that none of those before it has, that is not the 257th of its process and opens no fifth region
-unfoldable pub new_rule : ℕ → ℕ → List PolicyPage → List PolicyRule → Data → Option PolicyRule
-new_rule version processes pages before d = do
-  r ← rule_of version processes pages d
-  other ← when (not (list_any (λ (s : PolicyRule). has_same_place s r) before))
-  room ← when (nat_lt (count_by (λ (s : PolicyRule). s.process == r.process) before) 256)
-  near ← when (nat_le (count_distinct (region r.address ∷ regions_of r.process before)) 4)
-  Some r
+-- a rule at a place that none of these has, that is not the 257th of its process and opens no fifth region
+unfoldable pub beside : List PolicyRule → PolicyRule → Result PolicyRule RuleCause
+beside before r = do
+  other ← check (not (list_any (λ (s : PolicyRule). has_same_place s r) before)) rule.SamePlace
+  room ← check (nat_lt (count_by (λ (s : PolicyRule). s.process == r.process) before) 256) rule.TooManyRules
+  near ← check (nat_le (count_distinct (region r.address ∷ regions_of r.process before)) 4) rule.FifthRegion
+  Ok r
+
+-- a rule beside those before it
+unfoldable pub new_rule : ℕ → ℕ → List PolicyPage → List PolicyRule → Data → Result PolicyRule RuleCause
+new_rule version processes pages before d = rule_of version processes pages d >>= beside before
 
 -- the name of the source too, where it is new
 abbrev pub with_source : List (List ℕ) → Option Source → List (List ℕ)

@@ -1,4 +1,6 @@
 //! What an input asks for.
+ghost use Rattle.std.specs.Prelude.{◌≡◌};
+ghost use Rattle.ds_policy.specs.Words.{address_of_command, process_of_command, verb_of};
 
 use crate::grant::Right;
 
@@ -36,6 +38,49 @@ pub enum Command {
     Stop {
         process: u32,
     },
+}
+
+impl Command {
+    /// The word with which its line begins, after the time.
+    pub fn verb(self) -> &'static str
+        ensures { result.now ≡ verb_of self }
+    {
+        match self {
+            Command::Grant { .. } => "grant",
+            Command::Narrow { .. } => "narrow",
+            Command::Revoke { .. } => "revoke",
+            Command::Drop { .. } => "drop",
+            Command::Resume { .. } => "resume",
+            Command::Stop { .. } => "stop",
+        }
+    }
+
+    /// The number of the process that it names.
+    pub fn process(self) -> u32
+        ensures { result ≡ process_of_command self }
+    {
+        match self {
+            Command::Grant { process, .. }
+            | Command::Narrow { process, .. }
+            | Command::Revoke { process, .. }
+            | Command::Drop { process, .. }
+            | Command::Resume { process }
+            | Command::Stop { process } => process,
+        }
+    }
+
+    /// The address of the entry that it names, where it names one.
+    pub fn address(self) -> Option<u32>
+        ensures { result ≡ address_of_command self }
+    {
+        match self {
+            Command::Grant { address, .. }
+            | Command::Narrow { address, .. }
+            | Command::Revoke { address, .. }
+            | Command::Drop { address, .. } => Some(address),
+            Command::Resume { .. } | Command::Stop { .. } => None,
+        }
+    }
 }
 
 /// A command with the time at which it is due, in ticks, and its number among the commands, from 1.

@@ -1,14 +1,17 @@
 //! What an input says: commands and characters, each with its time.
 ghost use Rattle.std.specs.Prelude.{◌≡◌, ◌==◌, ◌≤◌, length, drop, slice_get, IfOk};
 ghost use Rattle.std.specs.List.{position_or_len, before_first, after_first};
-ghost use Rattle.ds_policy.specs.InputText.{Gives, input_of};
+ghost use Rattle.ds_policy.specs.Refusal.{IsRead};
+ghost use Rattle.ds_policy.specs.InputText.{Gives, input_of, read_input};
 ghost use Rattle.ds_policy.specs.InputFacts.{AreGoodCommands};
 
+mod cause;
 mod characters;
 mod digits;
 mod event;
 mod fault;
 mod keys;
+mod layout;
 mod line;
 mod list;
 mod reading;
@@ -16,9 +19,12 @@ mod reading;
 use crate::command::{Character, TimedCommand};
 use crate::names::NamedPages;
 use crate::policy::{Policy, PolicyPage};
+use crate::unread::Unread;
+pub use cause::{InputCause, InputReason};
 pub use characters::Characters;
 pub use digits::address_of;
 pub use fault::EventsFault;
+pub use layout::two_blanks_place;
 pub use list::EventList;
 use std::alloc::Global;
 use std::marker::Model;
@@ -53,6 +59,22 @@ impl Events {
     /// What a text says, or its first line that is wrong.
     pub fn read(alloc: Global, text: &[u8], policy: &Policy) -> Result<Events, EventsFault>
         ensures exact { Gives result (input_of policy.now.pages text.now) }
+        ensures good { IfOk result (λ e. AreGoodCommands (length policy.now.pages) e.commands) }
+    {
+        match Events::read_or_reason(alloc, text, policy) {
+            Ok(events) => Ok(events),
+            Err(Unread::Reason(reason)) => Err(EventsFault::InputFault(reason.line)),
+            Err(Unread::Memory) => Err(EventsFault::Memory),
+        }
+    }
+
+    /// What a text says, or why its first line that is wrong is refused.
+    pub fn read_or_reason(
+        alloc: Global,
+        text: &[u8],
+        policy: &Policy,
+    ) -> Result<Events, Unread<InputReason>>
+        ensures exact { IsRead (λ e. e) result (read_input policy.now.pages text.now) }
         ensures good { IfOk result (λ e. AreGoodCommands (length policy.now.pages) e.commands) }
     {
         let pages = policy.pages();
@@ -90,9 +112,13 @@ impl Events {
     }
 }
 
-fn events_of(alloc: Global, text: &[u8], pages: &[PolicyPage]) -> Result<Events, EventsFault>
+fn events_of(
+    alloc: Global,
+    text: &[u8],
+    pages: &[PolicyPage],
+) -> Result<Events, Unread<InputReason>>
     requires { length pages.now ≤ 1024 }
-    ensures exact { Gives result (input_of pages.now text.now) }
+    ensures exact { IsRead (λ e. e) result (read_input pages.now text.now) }
     ensures good { IfOk result (λ e. AreGoodCommands (length pages.now) e.commands) }
 {
     let named = NamedPages::of(alloc, pages)?;
@@ -102,9 +128,7 @@ fn events_of(alloc: Global, text: &[u8], pages: &[PolicyPage]) -> Result<Events,
     while !left.is_empty() {
         let (line, rest) = first_line(left);
         number += 1;
-        if !reading.add_line(alloc, &named, line)? {
-            return Err(EventsFault::InputFault(number));
-        }
+        reading.add_line(alloc, &named, number, line)?;
         left = rest;
     }
     Ok(Events {

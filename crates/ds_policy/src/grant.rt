@@ -1,6 +1,7 @@
 //! Entries of the permission table.
 ghost use Rattle.std.specs.Prelude.{◌≡◌};
 ghost use Rattle.ds_policy.specs.Grants.{forbidden_by};
+ghost use Rattle.ds_policy.specs.Words.{right_word};
 
 /// What an entry allows.
 #[derive(Clone, Copy, Debug, PartialEq, Eq)]
@@ -8,6 +9,19 @@ pub enum Right {
     Nothing,
     Read,
     Write,
+}
+
+impl Right {
+    /// The word for it in a policy and an input.
+    pub fn word(self) -> &'static str
+        ensures { result.now ≡ right_word self }
+    {
+        match self {
+            Right::Nothing => "none",
+            Right::Read => "read",
+            Right::Write => "write",
+        }
+    }
 }
 
 /// Where an entry stands: the process that has it, and its page address.

@@ -94,11 +94,17 @@ impl Row {
         ensures { self.new ≡ put self.old address grant }
     {
         match place(self.entries.as_slice(), address) {
-            Some(i) => {
-                self.entries[i] = Entry { address, grant };
-            }
-            None => self.entries.push(Entry { address, grant }),
+            Some(place) => self.set_at(place, address, grant),
+            None => self.append(address, grant),
         }
+    }
+
+    /// Puts an entry in the place of the one at its address, which stands at this place, the first at 0.
+    pub(crate) fn set_at(&mut self, place: usize, address: u32, grant: Grant)
+        requires { position (λ e. e.address == address) self.old ≡ Some place }
+        ensures { self.new ≡ put self.old address grant }
+    {
+        self.entries[place] = Entry { address, grant };
     }
 
     /// Puts an entry at the end, where none is at its address.

@@ -1,11 +1,3 @@
-pub mod InputWords
-pub mod InputSteps
-pub mod InputLaws
-pub mod Pairs
-pub mod Lists
-pub mod PolicyLaws
-pub mod Exactness
-pub mod WordsExact
-pub mod RulesExact
+pub mod ReasonsTold
 pub mod OddKeys
 pub mod FirstSaid

@@ -1,6 +1,6 @@
 -- Worked places of what is wrong with a line of an input.
 use Rattle.std.specs.Prelude.{codes, refl, ◌≡◌, [], ◌∷◌, map, None, Some}
-use Rattle.ds_policy_reasons.specs.declared.input_cause.InputCause.TheVariants.{CarriageReturn, Tab, BlankAtStart, BlankAtEnd, TwoBlanks, BadTime, UnknownEvent, WordCount, BadProcess, BadAddress, UnknownPage, BadRight, BadGive, BadLine, BadBytes, EarlierTime, TooManyEvents}
+use Rattle.ds_policy.specs.declared.events.cause.InputCause.TheVariants.{CarriageReturn, Tab, BlankAtStart, BlankAtEnd, TwoBlanks, BadTime, UnknownEvent, WordCount, BadProcess, BadAddress, UnknownPage, BadRight, BadGive, BadLine, BadBytes, EarlierTime, TooManyEvents}
 use Rattle.ds_policy_reasons.specs.CausePlaces.{cause_place}
 
 -- each word of a grant, and the time where it is earlier

@@ -1,13 +1,8 @@
 -- Where in a line of an input what is wrong with it begins.
-use Rattle.std.specs.Prelude.{ℕ, ◌+◌, ◌-◌, ◌&&◌, ◌==◌, List, [], ◌∷◌, length, position, Option, Some, None, if◌then◌else◌}
-use Rattle.ds_policy_reasons.specs.declared.input_cause.InputCause.{InputCause}
-use Rattle.ds_policy_reasons.specs.declared.input_cause.InputCause.TheVariants.{CarriageReturn, Tab, BlankAtStart, BlankAtEnd, TwoBlanks, BadTime, UnknownEvent, WordCount, BadProcess, BadAddress, UnknownPage, BadRight, BadGive, BadLine, BadBytes, EarlierTime, TooManyEvents}
-use Rattle.ds_policy_reasons.specs.Layout.{begins_with_blank}
-
--- where two blanks first stand together, in bytes that begin at place n
-abbrev pub two_blanks_from : ℕ → List ℕ → Option ℕ
-two_blanks_from n [] = None
-two_blanks_from n (b ∷ line) = if (b == 32) && begins_with_blank line then Some n else two_blanks_from (n + 1) line
+use Rattle.std.specs.Prelude.{ℕ, ◌+◌, ◌-◌, ◌==◌, List, [], ◌∷◌, length, position, Option, Some, None, if◌then◌else◌}
+use Rattle.ds_policy.specs.declared.events.cause.InputCause.{InputCause}
+use Rattle.ds_policy.specs.declared.events.cause.InputCause.TheVariants.{CarriageReturn, Tab, BlankAtStart, BlankAtEnd, TwoBlanks, BadTime, UnknownEvent, WordCount, BadProcess, BadAddress, UnknownPage, BadRight, BadGive, BadLine, BadBytes, EarlierTime, TooManyEvents}
+use Rattle.ds_policy.specs.InputLayout.{two_blanks_from}
 
 -- where the word begins that k blanks stand before, in bytes that begin at place n
 abbrev pub word_from : ℕ → ℕ → List ℕ → Option ℕ

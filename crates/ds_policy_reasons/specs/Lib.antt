@@ -1,16 +1,7 @@
-pub mod Layout
-pub mod Words
-pub mod Inputs
-pub mod InputRows
+pub mod Reasons
 pub mod CausePlaces
 pub mod CausePlaceRows
-pub mod Document
-pub mod Processes
-pub mod PolicyPages
-pub mod Rules
-pub mod Policies
 pub mod Texts
 pub mod Keys
 pub mod Kinds
 pub mod KeyRows
-pub mod PolicyRows

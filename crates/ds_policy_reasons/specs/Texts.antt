@@ -1,15 +1,15 @@
 -- How what is wrong is told and mended: each cause has the words of the constant that has its name.
 use Rattle.std.specs.Prelude.{ℕ, List}
-use Rattle.ds_policy_reasons.specs.declared.input_cause.InputCause.{InputCause}
-use Rattle.ds_policy_reasons.specs.declared.input_cause.InputCause.TheVariants as input
-use Rattle.ds_policy_reasons.specs.declared.policy_cause.ProcessCause.{ProcessCause}
-use Rattle.ds_policy_reasons.specs.declared.policy_cause.ProcessCause.TheVariants as process
-use Rattle.ds_policy_reasons.specs.declared.policy_cause.PageCause.{PageCause}
-use Rattle.ds_policy_reasons.specs.declared.policy_cause.PageCause.TheVariants as page
-use Rattle.ds_policy_reasons.specs.declared.policy_cause.RuleCause.{RuleCause}
-use Rattle.ds_policy_reasons.specs.declared.policy_cause.RuleCause.TheVariants as rule
-use Rattle.ds_policy_reasons.specs.declared.reason.PolicyReason.{PolicyReason}
-use Rattle.ds_policy_reasons.specs.declared.reason.PolicyReason.TheVariants as reason
+use Rattle.ds_policy.specs.declared.events.cause.InputCause.{InputCause}
+use Rattle.ds_policy.specs.declared.events.cause.InputCause.TheVariants as input
+use Rattle.ds_policy.specs.declared.cause.ProcessCause.{ProcessCause}
+use Rattle.ds_policy.specs.declared.cause.ProcessCause.TheVariants as process
+use Rattle.ds_policy.specs.declared.cause.PageCause.{PageCause}
+use Rattle.ds_policy.specs.declared.cause.PageCause.TheVariants as page
+use Rattle.ds_policy.specs.declared.cause.RuleCause.{RuleCause}
+use Rattle.ds_policy.specs.declared.cause.RuleCause.TheVariants as rule
+use Rattle.ds_policy.specs.declared.cause.PolicyReason.{PolicyReason}
+use Rattle.ds_policy.specs.declared.cause.PolicyReason.TheVariants as reason
 use Rattle.ds_policy_reasons.specs.declared.input_texts.TheConstants.{CARRIAGE_RETURN, TAB, BLANK_AT_START, BLANK_AT_END, TWO_BLANKS, BAD_TIME, UNKNOWN_EVENT, WORD_COUNT, BAD_PROCESS, BAD_ADDRESS, UNKNOWN_PAGE, BAD_RIGHT, BAD_GIVE, BAD_LINE, BAD_BYTES, EARLIER_TIME, TOO_MANY_EVENTS}
 use Rattle.ds_policy_reasons.specs.declared.policy_texts.TheConstants.{NOT_TOML, OTHER_KEY, BAD_VERSION, BAD_FRAMES, BAD_RATE, PROCESS_COUNT, PAGE_COUNT, RULE_COUNT, PROCESS_NOT_TABLE, PROCESS_OTHER_KEY, BAD_START, PROCESS_BAD_LINE, PAGE_NOT_TABLE, PAGE_OTHER_KEY, BAD_NAME, BAD_SOURCE, BAD_PART, SAME_NAME}
 use Rattle.ds_policy_reasons.specs.declared.rule_texts.TheConstants.{RULE_NOT_TABLE, RULE_OTHER_KEY, UNTIL_OF_VERSION_1, RULE_BAD_PROCESS, RULE_BAD_ADDRESS, RULE_BAD_RIGHT, PAGE_OF_NONE, UNTIL_OF_NONE, BAD_PAGE, RULE_BAD_GIVE, BAD_UNTIL, SAME_PLACE, TOO_MANY_RULES, FIFTH_REGION}

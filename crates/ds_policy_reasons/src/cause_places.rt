@@ -1,9 +1,8 @@
 //! Where in a line of an input stands what is wrong with it.
 ghost use Rattle.std.specs.Prelude.{◌≡◌, ◌==◌, ◌-◌, position, if◌then◌else◌};
-ghost use Rattle.ds_policy_reasons.specs.CausePlaces.{cause_place, two_blanks_from, word_from};
+ghost use Rattle.ds_policy_reasons.specs.CausePlaces.{cause_place, word_from};
 
-use crate::input_cause::InputCause;
-use crate::layout::begins_with_blank;
+use ds_policy::{InputCause, two_blanks_place};
 
 /// Where in its line begins what a cause is about, in bytes: the byte that may not stand there, or
 /// the word that is wrong. A line with too few words or too many, and one event too many, have no
@@ -31,22 +30,6 @@ fn place_of(byte: u8, line: &[u8]) -> Option<usize>
     ensures { result ≡ position (λ b. b == byte) line.now }
 {
     line.iter().position(|b| *b == byte)
-}
-
-/// Where two blanks first stand together.
-fn two_blanks_place(line: &[u8]) -> Option<usize>
-    ensures { result ≡ two_blanks_from 0 line.now }
-{
-    let mut place = 0;
-    let mut left = line;
-    while let [first, rest @ ..] = left {
-        if *first == b' ' && begins_with_blank(rest) {
-            return Some(place);
-        }
-        place += 1;
-        left = rest;
-    }
-    None
 }
 
 /// Where the word begins that so many blanks stand before.

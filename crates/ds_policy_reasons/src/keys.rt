@@ -6,7 +6,7 @@ ghost use Rattle.ds_policy_reasons.specs.Keys.{ends_key, first_odd, is_key, is_m
 
 use ds_asm::{first_line, is_digit, is_letter, without_front_blanks};
 use ds_source_reasons::is_like;
-use itoa::Buffer;
+use ds_text::sheet::push_decimal;
 use std::alloc::AllocError;
 
 /// How many characters of a key are shown at most.
@@ -181,7 +181,7 @@ pub fn push_odd_key(sheet: &mut Vec<u8>, key: OddKey<'_>) -> Result<(), AllocErr
     sheet.extend_from_slice(b"`")?;
     sheet.extend_from_slice(front_of(MOST_SHOWN, key.name))?;
     sheet.extend_from_slice(IN_LINE.as_bytes())?;
-    sheet.extend_from_slice(Buffer::new().format(key.line).as_bytes())?;
+    push_decimal(sheet, key.line)?;
     push_meant(sheet, meant_key(key.name))
 }
 

@@ -2,24 +2,22 @@
 ghost use Rattle.std.specs.Prelude.{◌≡◌};
 ghost use Rattle.ds_policy_reasons.specs.Texts.{input_cause_text, process_cause_text, page_cause_text, rule_cause_text, policy_reason_text};
 
-use crate::input_cause::InputCause;
 use crate::input_texts::{
     BAD_ADDRESS, BAD_BYTES, BAD_GIVE, BAD_LINE, BAD_PROCESS, BAD_RIGHT, BAD_TIME, BLANK_AT_END,
     BLANK_AT_START, CARRIAGE_RETURN, EARLIER_TIME, TAB, TOO_MANY_EVENTS, TWO_BLANKS, UNKNOWN_EVENT,
     UNKNOWN_PAGE, WORD_COUNT,
 };
-use crate::policy_cause::{PageCause, ProcessCause, RuleCause};
 use crate::policy_texts::{
     BAD_FRAMES, BAD_NAME, BAD_PART, BAD_RATE, BAD_SOURCE, BAD_START, BAD_VERSION, NOT_TOML,
     OTHER_KEY, PAGE_COUNT, PAGE_NOT_TABLE, PAGE_OTHER_KEY, PROCESS_BAD_LINE, PROCESS_COUNT,
     PROCESS_NOT_TABLE, PROCESS_OTHER_KEY, RULE_COUNT, SAME_NAME,
 };
-use crate::reason::PolicyReason;
 use crate::rule_texts::{
     BAD_PAGE, BAD_UNTIL, FIFTH_REGION, PAGE_OF_NONE, RULE_BAD_ADDRESS, RULE_BAD_GIVE,
     RULE_BAD_PROCESS, RULE_BAD_RIGHT, RULE_NOT_TABLE, RULE_OTHER_KEY, SAME_PLACE, TOO_MANY_RULES,
     UNTIL_OF_NONE, UNTIL_OF_VERSION_1,
 };
+use ds_policy::{InputCause, PageCause, PolicyReason, ProcessCause, RuleCause};
 
 /// What is wrong with a line of an input, and what to write in its place.
 pub fn input_cause_text(cause: InputCause) -> &'static str

@@ -41,7 +41,8 @@ use Rattle.ds_promise.proofs.Tables.{AllGrants, with_entry_all, was_another, exp
 use Rattle.ds_promise.proofs.Placed.{AllPlaced, GrantIsPlaced, command_placed}
 use Rattle.ds_promise.proofs.Stores.{found_by, boundary_after_memory, touched_owed}
 use Rattle.ds_promise.proofs.Lines.{commands_with_events}
-use Rattle.ds_promise.proofs.FirstPages.{no_entry_yet, text_good, made_under}
+use Rattle.ds_policy.proofs.PolicyRead.{policy_good}
+use Rattle.ds_promise.proofs.FirstPages.{no_entry_yet, made_under}
 
 -- A right that has ended is found.
 
@@ -256,7 +257,7 @@ pub inputs_in_time : (text : List ℕ) (sources : Sources) (input : List ℕ) (n
 unfolding inputs
 inputs_in_time text sources input n random m h =
     let it = made first_state text sources input n random m h in
-    subst IsInTime it.is (first_in_time it.policy it.images it.events (text_good text it.policy it.policy_is).rules.good)
+    subst IsInTime it.is (first_in_time it.policy it.images it.events (policy_good text it.policy it.policy_is).rules.good)
 
 pub under_in_time : (policy : PolicyValue) (sources : Sources) (input : List ℕ) (n random : ℕ) (m : State) → IsGoodPolicy policy → inputs_under policy sources input n random ≡ Ok m → IsInTime m
 under_in_time policy sources input n random m good h =

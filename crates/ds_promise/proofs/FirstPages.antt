@@ -15,14 +15,10 @@ use Rattle.ds_policy.specs.Grants.{is_some_right}
 use Rattle.ds_policy.specs.FirstTable.{with_rule, with_rules, granted_by}
 use Rattle.ds_policy.specs.PolicyFacts.{IsGoodRule, IsGoodPolicy}
 use Rattle.ds_policy.specs.InputFacts.{AreGoodCommands}
-use Rattle.ds_policy.specs.InputText.{Said, input_of, input_in, as_input, with_lines, nothing_said, lines_of}
-use Rattle.ds_policy.specs.Refusal.{bad_toml}
-use Rattle.ds_policy.specs.Refusal as reading
-use Rattle.ds_policy.specs.Document.{document}
+use Rattle.ds_policy.specs.InputText.{input_of}
 use Rattle.ds_policy.specs.PolicyParts.{sources_of}
-use Rattle.ds_policy.specs.PolicyText.{policy_of, says}
-use Rattle.ds_policy.proofs.GoodInput.{good_commands}
-use Rattle.ds_policy.proofs.PolicyRead.{says_good}
+use Rattle.ds_policy.proofs.GoodInput.{input_good}
+use Rattle.ds_policy.proofs.PolicyRead.{policy_good}
 use Rattle.ds_word.proofs.ResultBinding.{bind_ok}
 use Rattle.ds_pagemap.specs.Machine.{State}
 use Rattle.ds_pagemap.specs.First.{source_bytes, image_named, first_state}
@@ -134,27 +130,12 @@ first_whole policy images events rules commands =
       commands = commands;
     }
 
-pub text_good : (text : List ℕ) (p : PolicyValue) → policy_of text ≡ Ok p → IsGoodPolicy p
-unfolding policy_of
-text_good text p h =
-    let (ms, h1, a) = bind_ok (reading.or_else (document text) bad_toml) says p h in
-    says_good ms p a
-
-said_in : (r : Result Said ℕ) (e : InputValue) → as_input r ≡ Ok e → (s : Said) × (r ≡ Ok s) × (input_in s ≡ e)
-said_in (Ok s) e h = (s, refl, cc)
-said_in (Err line) e h = cc
-
-events_good : (policy : PolicyValue) (input : List ℕ) (e : InputValue) → input_of policy.pages input ≡ Ok e → AreGoodCommands (length policy.pages) e.commands
-events_good policy input e h =
-    let (s, h1, is) = said_in (with_lines policy.pages nothing_said 1 (lines_of input)) e h in
-    subst (λ (i : InputValue). AreGoodCommands (length policy.pages) i.commands) is (good_commands policy.pages (lines_of input) s h1)
-
 pub inputs_whole : (text : List ℕ) (sources : Sources) (input : List ℕ) (n random : ℕ) (m : State) → inputs text sources input n random ≡ Ok m → HasWholePages m
 unfolding inputs
 inputs_whole text sources input n random m h =
     let it = made first_state text sources input n random m h in
-    let good = text_good text it.policy it.policy_is in
-    subst HasWholePages it.is (first_whole it.policy it.images it.events good.rules.good (events_good it.policy input it.events it.events_are))
+    let good = policy_good text it.policy it.policy_is in
+    subst HasWholePages it.is (first_whole it.policy it.images it.events good.rules.good (input_good it.policy.pages input it.events it.events_are).1)
 
 -- Under a policy that was read before.
 
@@ -182,4 +163,4 @@ made_under policy sources input n random m h =
 pub under_whole : (policy : PolicyValue) (sources : Sources) (input : List ℕ) (n random : ℕ) (m : State) → IsGoodPolicy policy → inputs_under policy sources input n random ≡ Ok m → HasWholePages m
 under_whole policy sources input n random m good h =
     let it = made_under policy sources input n random m h in
-    subst HasWholePages it.is (first_whole policy it.images it.events good.rules.good (events_good policy input it.events it.events_are))
+    subst HasWholePages it.is (first_whole policy it.images it.events good.rules.good (input_good policy.pages input it.events it.events_are).1)

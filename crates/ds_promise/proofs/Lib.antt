@@ -25,3 +25,11 @@ pub mod ShareEnds
 pub mod EndRows
 pub mod Kinship
 pub mod KinRuns
+pub mod Quietness
+pub mod Twins
+pub mod Units
+pub mod Boundaries
+pub mod Runs
+pub mod Found
+pub mod Inputs
+pub mod QuietRows

@@ -7,3 +7,7 @@ pub mod Ends
 pub mod Denied
 pub mod Answers
 pub mod Rows
+pub mod Alike
+pub mod Twins
+pub mod Quiet
+pub mod QuietRows

@@ -1,10 +1,12 @@
 //! What the page-map machine promises its user: who can change a page, what a guest can see, what a
-//! call can tell, what the log says, and that rights end at their time.
+//! call can tell, what the log says, that rights end at their time, and that nobody sees where Random
+//! started while no guest reads what the refill of a translation may write.
 #![tactic(auto)]
 
 mod ends;
 mod laws;
 mod pages;
+mod quiet;
 mod sharing;
 
 pub use ends::{
@@ -18,6 +20,10 @@ pub use laws::{
 };
 pub use pages::{
     a_copy_has_the_bytes_of_that_moment, pages_change_only_as_granted, pages_stay_whole,
+};
+pub use quiet::{
+    quiet_instructions_do_alike, quiet_runs_are_found, quiet_runs_look_alike,
+    the_start_of_random_is_not_seen,
 };
 pub use sharing::{
     a_copy_is_not_reached, a_drop_hands_shares_to_the_one_above,

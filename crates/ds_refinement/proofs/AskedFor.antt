@@ -44,8 +44,8 @@ use Rattle.ds_refinement.proofs.Links.{branches_again}
 use Rattle.ds_refinement.specs.Told.{code_in}
 use Rattle.ds_refinement.proofs.Exceptions.{code_told, space_told, status_told}
 use Rattle.ds_refinement.proofs.Resting.{rests}
-use Rattle.ds_bounds.specs.Course.{Ask, Fetch, Slot, Access, asked, Place, Begun, InItsSlot, AtWord, AtModification, AtService, Work, Course}
-use Rattle.ds_bounds.specs.Steps.{counted as counted_work, IsUsers, Next, Branches, Misses, MissesInSlot, Modifies, Traps}
+use Rattle.ds_refinement.specs.Course.{Ask, Fetch, Slot, Access, asked, Place, Begun, InItsSlot, AtWord, AtModification, AtService, Work, Course}
+use Rattle.ds_refinement.specs.CourseSteps.{counted as counted_work, IsUsers, Next, Branches, Misses, MissesInSlot, Modifies, Traps}
 use Rattle.ds_refinement.specs.Counts.{Counts, one_more, place_by, work_of, course_of}
 use Rattle.ds_refinement.specs.Needs.{page_of, asked_at, data_page, pages_of}
 use Rattle.ds_refinement.specs.Asks.{Fetches, Asks, IsRefused, Turns, Leaves, Does, IsMissed, IsModified, TellsClean}

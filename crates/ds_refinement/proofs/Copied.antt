@@ -21,8 +21,8 @@ use Rattle.ds_cp0.specs.System.{is_user}
 use Rattle.ds_dev.specs.Bus.{BusState}
 use Rattle.ds_core.specs.Core.{CoreState}
 use Rattle.ds_pagemap.specs.Machine.{State, touched}
-use Rattle.ds_bounds.specs.Tally.{IsTallied}
-use Rattle.ds_bounds.proofs.Courses as courses
+use Rattle.ds_refinement.specs.Tally.{IsTallied}
+use Rattle.ds_refinement.proofs.UnitCourses as courses
 use Rattle.ds_refinement.specs.declared.step.Step.TheVariants.{Inside}
 use Rattle.ds_refinement.specs.Held.{Held, Kept, Own}
 use Rattle.ds_refinement.specs.Units.{has_left_user, is_served, AtStart}

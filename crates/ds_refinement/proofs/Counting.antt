@@ -9,6 +9,7 @@ use Rattle.ds_policy.specs.Grants.{PageState, give, take, drop_own}
 use Rattle.ds_cp0.specs.System.{is_user}
 use Rattle.ds_core.specs.Core as core
 use Rattle.ds_core.specs.Core.{CoreState}
+use Rattle.ds_grants.proofs.OwnFrames.{truth_small}
 use Rattle.ds_pagemap.specs.declared.turn.Turn.{Turn}
 use Rattle.ds_pagemap.specs.Machine.{State, lives, process_of}
 use Rattle.ds_pagemap.specs.Calls.{answered, or_number, or_denied, queue_of, after_get, after_wait, served}
@@ -27,10 +28,6 @@ use Rattle.ds_refinement.specs.Services.{EndsBy, seated, with_first_seated, with
 use Rattle.ds_refinement.specs.Ends.{EndsInStop, EndsInCall}
 
 -- Inside a unit.
-
-truth_small : (b : Bool) → truth b ≤ 1
-truth_small true = omega arith
-truth_small false = omega arith
 
 -- a step that ends no unit and serves nothing counts one instruction
 pub inside_moves : (h : Held) (c : CoreState) (b : BusState) (n : Counts) → h.kept.state.owed ≡ None → is_served h.core ≡ false → h.own.spent + 1 ≤ 64 → n.spent ≡ h.own.spent + 1 → n ≡ counts_after h

@@ -9,8 +9,9 @@ use Rattle.ds_tlb.specs.Words.{entry_of}
 use Rattle.ds_cp0.specs.System.{asid_of, is_user}
 use Rattle.ds_core.specs.Core.{CoreState}
 use Rattle.ds_refinement.specs.Told.{code_in}
-use Rattle.ds_bounds.specs.Course.{Pages, after_touch, Place, Begun, AtWord, AtDoubleMiss, AtModification}
-use Rattle.ds_bounds.specs.Steps.{table_page, HasKeys, Next, Passes, MissesTable, Writes, Returns, Tables, Copies}
+use Rattle.ds_refinement.specs.Course.{Pages, after_touch, Place, Begun, AtWord, AtDoubleMiss, AtModification}
+use Rattle.ds_refinement.specs.CourseSteps.{table_page, Next, Passes, MissesTable, Writes, Returns, Tables, Copies}
+use Rattle.ds_grants.specs.Copies.{HasKeys}
 use Rattle.ds_refinement.specs.Counts.{Counts, one_more, one_written, one_tabled, one_copied, place_by, place_of, work_of, course_of}
 
 -- the same course

@@ -18,7 +18,7 @@ use Rattle.ds_refinement.specs.Handling.{InDouble}
 use Rattle.ds_refinement.specs.Stands.{Agrees}
 use Rattle.ds_refinement.specs.Services.{at_unit, table_entry}
 use Rattle.ds_refinement.proofs.Fields.{space_in, page_of_hi, table_of_hi, region_of_hi}
-use Rattle.ds_handler.proofs.Lent.{lend_26, in_27, base_size}
+use Rattle.ds_refill.proofs.Lent.{lend_26, in_27, base_size}
 use Rattle.ds_refinement.proofs.Standing.{runs, few, touched_state, own_unseen}
 
 -- the processor with the entry of the table's page in a slot, and the unit about to begin again

@@ -20,7 +20,7 @@ use Rattle.ds_refinement.proofs.Exceptions.{status_told, epc_told}
 use Rattle.ds_refinement.specs.Handling.{AtContext, HasBase, IsSet, IsWhole, AreUnits, InHandler, IsMiss}
 use Rattle.ds_refinement.specs.Stands.{OnProcessor, Agrees}
 use Rattle.ds_refinement.proofs.Fields.{space_set, hi_entered, context_entered, hi_low, hi_small, context_high, context_low}
-use Rattle.ds_handler.proofs.Lent.{lent_itself}
+use Rattle.ds_refill.proofs.Lent.{lent_itself}
 use Rattle.ds_refinement.proofs.Standing.{runs, kept, few, same_state, in_handler, at_general, mode_of_user}
 
 -- An exception leaves EntryHi in its address space, and Context at the page tables.

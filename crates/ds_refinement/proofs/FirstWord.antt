@@ -17,11 +17,11 @@ use Rattle.ds_core.specs.declared.event.Event.TheVariants.{Retired, Raised}
 use Rattle.ds_core.specs.Core.{CoreState, Step}
 use Rattle.ds_core.specs.Effect.{step}
 use Rattle.ds_refill.specs.Handler.{HasWords}
-use Rattle.ds_refill_laws.specs.Refill.{IsKernel, lent, late_of, at_word, table_miss, handler_events}
-use Rattle.ds_refill_laws.proofs.Whole.{word_0, word_1, word_2_misses}
-use Rattle.ds_handler.specs.Refills.{after_refill, CanLoad, RunsInside}
-use Rattle.ds_handler.proofs.Lent.{is_at_word, base_size}
-use Rattle.ds_handler.proofs.Once.{at_once_runs}
+use Rattle.ds_refill.specs.Refill.{IsKernel, lent, late_of, at_word, table_miss, handler_events}
+use Rattle.ds_refill.proofs.Whole.{word_0, word_1, word_2_misses}
+use Rattle.ds_refill.specs.Refills.{after_refill, CanLoad, RunsInside}
+use Rattle.ds_refill.proofs.Lent.{is_at_word, base_size}
+use Rattle.ds_refill.proofs.Once.{at_once_runs}
 use Rattle.ds_tables.specs.Places.{region_of, page_of_table}
 use Rattle.ds_tables.specs.Tables.{word_place}
 use Rattle.ds_grants.specs.Words.{granted_word}

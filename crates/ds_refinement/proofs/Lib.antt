@@ -46,3 +46,9 @@ pub mod Copied
 pub mod Staying
 pub mod WrittenRows
 pub mod CopyRows
+pub mod Costs
+pub mod Keeping
+pub mod Slots
+pub mod Tallying
+pub mod UnitCourses
+pub mod UnitRows

@@ -15,7 +15,7 @@ use Rattle.ds_pagemap.specs.Machine.{State, Process, process_of, touched, touche
 use Rattle.ds_pagemap.specs.Unit.{Outcome, Went, Branched, Called, Stopped, instruction, done, where_allowed}
 use Rattle.ds_pagemap.proofs.Touches.{touched_again}
 use Rattle.ds_refinement.proofs.Registers.{HasSeat, process_put}
-use Rattle.ds_bounds.specs.Course.{after_touch}
+use Rattle.ds_refinement.specs.Course.{after_touch}
 use Rattle.ds_refinement.specs.Needs.{page_of, asked_by, asked_where, asked_at, asked_after, data_page, pages_of}
 
 -- What asks for data is no branch.

@@ -7,8 +7,8 @@ use Rattle.ds_core.specs.declared.event.Event.{Event}
 use Rattle.ds_core.specs.Core.{CoreState}
 use Rattle.ds_core.specs.Effect.{step}
 use Rattle.ds_refill.specs.Handler.{address_of}
-use Rattle.ds_refill_laws.specs.Refill.{handler_events}
-use Rattle.ds_handler.specs.Refills.{RunsInside}
+use Rattle.ds_refill.specs.Refill.{handler_events}
+use Rattle.ds_refill.specs.Refills.{RunsInside}
 use Rattle.ds_refinement.specs.declared.step.Step.TheVariants.{Inside}
 use Rattle.ds_refinement.specs.Held.{Held}
 use Rattle.ds_refinement.specs.Counts.{Counts, counts_of, with_counts, one_word, one_refilled}

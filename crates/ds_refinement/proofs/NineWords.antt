@@ -22,12 +22,12 @@ use Rattle.ds_core.specs.Core.{CoreState, at_next, with_tick, branched}
 use Rattle.ds_core.specs.Access.{mode_of, reached, refusal, refused, load_answered, loaded_from}
 use Rattle.ds_core.specs.Effect.{step}
 use Rattle.ds_refill.specs.Handler.{HasWords}
-use Rattle.ds_refill_laws.specs.Refill.{IsKernel}
-use Rattle.ds_refill_laws.specs.Refill as refill
-use Rattle.ds_refill_laws.proofs.Words.{context_is_read, address_is_read, entry_is_loaded, nothing_is_done, entry_is_moved, register_is_cleared, entry_is_written, jump_is_taken, mode_is_popped}
+use Rattle.ds_refill.specs.Refill.{IsKernel}
+use Rattle.ds_refill.specs.Refill as refill
+use Rattle.ds_refill.proofs.EachWord.{context_is_read, address_is_read, entry_is_loaded, nothing_is_done, entry_is_moved, register_is_cleared, entry_is_written, jump_is_taken, mode_is_popped}
 use Rattle.ds_refinement.proofs.Exceptions.{space_told, status_told}
-use Rattle.ds_bounds.specs.Course.{Pages, after_touch}
-use Rattle.ds_bounds.specs.Steps.{Next, table_page}
+use Rattle.ds_refinement.specs.Course.{Pages, after_touch}
+use Rattle.ds_refinement.specs.CourseSteps.{Next, table_page}
 use Rattle.ds_refinement.specs.Counts.{Counts, one_more, one_written, course_of}
 use Rattle.ds_refinement.proofs.AskedFor.{found_at, missed, shows}
 use Rattle.ds_refinement.proofs.CourseWords as words

@@ -40,7 +40,7 @@ use Rattle.ds_refinement.specs.Units.{user_status, owes_boundary, EndsUnit, Prom
 use Rattle.ds_refinement.specs.Stands.{OnProcessor, RunningIs, RunningBy, KeptIs, AreResting, Agrees, CountedBy, IsUnbegun, Stands, IsSound}
 use Rattle.ds_refinement.specs.Leaves.{Leaves}
 use Rattle.ds_core.specs.declared.event.Event.{Event}
-use Rattle.ds_bounds.specs.Tally.{IsTallied}
+use Rattle.ds_refinement.specs.Tally.{IsTallied}
 use Rattle.ds_refinement.specs.Needs.{pages_of}
 use Rattle.ds_refinement.specs.Counts.{Counts, CountedAfter, HasRanges, counts_of, course_of, fresh, may_write, one_more}
 use Rattle.ds_refinement.specs.Services.{after_event, step_of, with_turn, with_one_spent}

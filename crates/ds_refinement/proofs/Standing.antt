@@ -5,7 +5,7 @@ use Rattle.ds_word.specs.Word.{word, bits}
 use Rattle.ds_isa.specs.Registers.{Registers}
 use Rattle.ds_cp0.specs.System.{is_user, pushed}
 use Rattle.ds_refill.specs.Handler.{address_of}
-use Rattle.ds_refill_laws.specs.Refill.{lent}
+use Rattle.ds_refill.specs.Refill.{lent}
 use Rattle.ds_grants.specs.Buffer.{BufferHolds}
 use Rattle.ds_core.specs.Core.{CoreState}
 use Rattle.ds_pagemap.specs.Machine.{State, Process, process_of, with_process, no_process, touched, touch_first, touched_process}

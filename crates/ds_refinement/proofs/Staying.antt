@@ -12,10 +12,10 @@ use Rattle.ds_core.specs.Core.{CoreState}
 use Rattle.ds_core.specs.Effect.{step}
 use Rattle.ds_pagemap.specs.Machine.{State}
 use Rattle.ds_pagemap.specs.declared.turn.Turn.{Turn}
-use Rattle.ds_bounds.specs.Course.{Pages, Begun, AtWord, AtDoubleMiss, AtModification, Work, Course}
-use Rattle.ds_bounds.specs.Steps.{Next, Tables, tabled}
-use Rattle.ds_bounds.specs.Tally.{IsTallied, turns}
-use Rattle.ds_bounds.proofs.Courses as courses
+use Rattle.ds_refinement.specs.Course.{Pages, Begun, AtWord, AtDoubleMiss, AtModification, Work, Course}
+use Rattle.ds_refinement.specs.CourseSteps.{Next, Tables, tabled}
+use Rattle.ds_refinement.specs.Tally.{IsTallied, turns}
+use Rattle.ds_refinement.proofs.UnitCourses as courses
 use Rattle.ds_refinement.specs.declared.step.Step.TheVariants.{Inside}
 use Rattle.ds_refinement.specs.Told.{code_in}
 use Rattle.ds_refinement.specs.Held.{Held, Own}

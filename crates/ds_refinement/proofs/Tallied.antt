@@ -7,10 +7,10 @@ use Rattle.ds_core.specs.Core.{CoreState}
 use Rattle.ds_refinement.specs.Told.{code_in}
 use Rattle.ds_refinement.proofs.Registers.{HasSeat}
 use Rattle.ds_pagemap.specs.Machine.{State, touched}
-use Rattle.ds_bounds.specs.Course.{Pages, after_touch}
-use Rattle.ds_bounds.specs.Steps.{Next}
-use Rattle.ds_bounds.specs.Tally.{IsTallied}
-use Rattle.ds_bounds.proofs.Courses as courses
+use Rattle.ds_refinement.specs.Course.{Pages, after_touch}
+use Rattle.ds_refinement.specs.CourseSteps.{Next}
+use Rattle.ds_refinement.specs.Tally.{IsTallied}
+use Rattle.ds_refinement.proofs.UnitCourses as courses
 use Rattle.ds_refinement.specs.Needs.{pages_of}
 use Rattle.ds_refinement.specs.Asks.{TellsClean}
 use Rattle.ds_cp0.specs.System.{asid_of}
@@ -25,7 +25,7 @@ use Rattle.ds_core.specs.Core as core
 use Rattle.ds_core.specs.Effect.{step}
 use Rattle.ds_refinement.specs.Held.{Held, Kept, Own, space_of}
 use Rattle.ds_refinement.specs.Stands.{Agrees, CountedBy, IsUnbegun, RunningBy, Stands}
-use Rattle.ds_bounds.proofs.Slots.{ticked_low, ticked_high}
+use Rattle.ds_refinement.proofs.Slots.{ticked_low, ticked_high}
 use Rattle.ds_refinement.proofs.AskedFor.{goes_on, retires}
 use Rattle.ds_refinement.specs.Counts.{one_more, CountedAfter, Counts, HasNone, HasRanges, IsFew, fresh, place_by, course_of, counts_of, may_write}
 use Rattle.ds_refinement.proofs.Needed.{pages_touched}

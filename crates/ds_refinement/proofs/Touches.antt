@@ -12,7 +12,7 @@ use Rattle.ds_refinement.proofs.Links.{touched_link}
 use Rattle.ds_refinement.specs.Units.{has_left_user, is_general}
 use Rattle.ds_refinement.specs.Handling.{Phase, next_of, Lends, AreUnits, InHandler}
 use Rattle.ds_refinement.specs.Stands.{InKernel, OnProcessor, Agrees}
-use Rattle.ds_handler.proofs.Lent.{lent_again}
+use Rattle.ds_refill.proofs.Lent.{lent_again}
 use Rattle.ds_refinement.proofs.Standing.{in_handler, runs, stands_after, as_touched}
 
 -- who is touched may be touched again

@@ -12,14 +12,14 @@ use Rattle.ds_cp0.specs.System.{asid_of, is_user}
 use Rattle.ds_core.specs.Core.{CoreState}
 use Rattle.ds_core.specs.Effect.{step}
 use Rattle.ds_refill.specs.Handler as refill
-use Rattle.ds_refill_laws.specs.Refill.{lent, late_of}
+use Rattle.ds_refill.specs.Refill.{lent, late_of}
 use Rattle.ds_tables.specs.Places.{page_of_table}
 use Rattle.ds_grants.specs.Buffer.{hi_of, read_only}
 use Rattle.ds_pagemap.specs.Machine.{State, touched}
-use Rattle.ds_bounds.specs.Course.{AtWord, Course, Pages, after_touch}
-use Rattle.ds_bounds.specs.Steps.{Next}
-use Rattle.ds_bounds.specs.Tally.{IsTallied}
-use Rattle.ds_bounds.proofs.Courses as courses
+use Rattle.ds_refinement.specs.Course.{AtWord, Course, Pages, after_touch}
+use Rattle.ds_refinement.specs.CourseSteps.{Next}
+use Rattle.ds_refinement.specs.Tally.{IsTallied}
+use Rattle.ds_refinement.proofs.UnitCourses as courses
 use Rattle.ds_refinement.specs.Held.{Held, space_of}
 use Rattle.ds_refinement.specs.Needs.{pages_of}
 use Rattle.ds_refinement.specs.Counts.{Counts, counts_of, course_of, may_write, one_more, one_written, one_tabled, one_word}
@@ -34,7 +34,7 @@ use Rattle.ds_refinement.proofs.Touches.{here}
 use Rattle.ds_refinement.proofs.NineWords as nine
 use Rattle.ds_refinement.proofs.CourseWords as words
 use Rattle.ds_refinement.proofs.Tallied.{touches as touched_tallied, tallied_of}
-use Rattle.ds_handler.proofs.Lent.{base_size}
+use Rattle.ds_refill.proofs.Lent.{base_size}
 
 -- the page that EntryHi names
 page_in_hi : (vpn asid : ℕ) → vpn < 2 ^ 19 → asid < 64 → bits (hi_of vpn asid) 12 20 ≡ vpn

@@ -19,8 +19,8 @@ use Rattle.ds_core.specs.declared.event.Event.TheVariants.{Retired, Branched, Ra
 use Rattle.ds_core.specs.Core.{CoreState, Step}
 use Rattle.ds_core.specs.Effect.{step}
 use Rattle.ds_refill.specs.Handler.{address_of}
-use Rattle.ds_refill_laws.specs.Refill.{IsKernel, lent, late_of, at_word, table_miss}
-use Rattle.ds_refill_laws.proofs.Whole.{word_0, word_1, word_2, word_2_misses, word_3, word_4, word_5, word_6, word_7, word_8}
+use Rattle.ds_refill.specs.Refill.{IsKernel, lent, late_of, at_word, table_miss}
+use Rattle.ds_refill.proofs.Whole.{word_0, word_1, word_2, word_2_misses, word_3, word_4, word_5, word_6, word_7, word_8}
 use Rattle.ds_tables.specs.Places.{region_of, page_of_table}
 use Rattle.ds_tables.specs.Tables.{word_place}
 use Rattle.ds_grants.specs.Words.{granted_word}
@@ -38,7 +38,7 @@ use Rattle.ds_refinement.specs.Steps as steps
 use Rattle.ds_refinement.specs.Services.{with_step, after_word}
 use Rattle.ds_refinement.proofs.Fields.{space_in, hi_low, hi_small, context_high, context_low, hi_nested, IsWord, word_is_word}
 use Rattle.ds_refinement.proofs.Loads.{table_hit, table_miss_is, table_below}
-use Rattle.ds_handler.proofs.Lent.{is_at_word, in_0, base_size, base_nought, ticked_low, ticked_high}
+use Rattle.ds_refill.proofs.Lent.{is_at_word, in_0, base_size, base_nought, ticked_low, ticked_high}
 use Rattle.ds_refinement.proofs.Standing.{away_is, first_ready, in_handler, in_double, runs, few, same_state, touched_state, touched_already, as_touched, own_unseen}
 use Rattle.ds_refinement.proofs.WordTallies.{word_tallied}
 use Rattle.ds_refinement.proofs.Tallied.{tallied_of}

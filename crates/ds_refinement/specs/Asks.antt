@@ -21,7 +21,7 @@ use Rattle.ds_core.specs.Core.{CoreState, core_at_vector, branched_core}
 use Rattle.ds_isa.specs.Registers.{Registers}
 use Rattle.ds_core.specs.Access.{reached, refusal}
 use Rattle.ds_pagemap.specs.Machine.{State}
-use Rattle.ds_bounds.specs.Course.{Ask, Fetch, Pages, asked}
+use Rattle.ds_refinement.specs.Course.{Ask, Fetch, Pages, asked}
 use Rattle.ds_refinement.specs.Needs.{page_of, asked_at}
 
 -- the processor after a tick of Random

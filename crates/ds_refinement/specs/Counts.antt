@@ -8,9 +8,9 @@ use Rattle.ds_core.specs.Core.{CoreState}
 use Rattle.ds_grants.specs.Buffer.{lo_of}
 use Rattle.ds_refinement.specs.Held.{Kept, Own}
 use Rattle.ds_refinement.specs.Told.{code_in}
-use Rattle.ds_bounds.specs.Course.{Pages, Place, Begun, InItsSlot, AtWord, AtDoubleMiss, AtModification, AtService, Work, Course}
-use Rattle.ds_bounds.specs.Steps.{later, turned}
-use Rattle.ds_bounds.specs.Tally.{IsTallied}
+use Rattle.ds_refinement.specs.Course.{Pages, Place, Begun, InItsSlot, AtWord, AtDoubleMiss, AtModification, AtService, Work, Course}
+use Rattle.ds_refinement.specs.CourseSteps.{later, turned}
+use Rattle.ds_refinement.specs.Tally.{IsTallied}
 
 -- what is counted of a unit, and the slot for the next entry of a page table's page: the fields of `Work` of the same names
 pub record Counts : Type 0 where

@@ -7,10 +7,10 @@ use Rattle.ds_policy.specs.declared.access.Verdict.TheVariants.{Allowed, Denied}
 use Rattle.ds_policy.specs.declared.access.Rule.TheVariants.{K}
 use Rattle.ds_cp0.specs.System.{at_start}
 use Rattle.ds_core.specs.Core.{CoreState}
-use Rattle.ds_refill_laws.specs.Refill.{at_word}
+use Rattle.ds_refill.specs.Refill.{at_word}
 use Rattle.ds_pagemap.specs.Machine.{State}
 use Rattle.ds_pagemap_laws.specs.Rows.{resting, state_of}
-use Rattle.ds_bounds.specs.Course.{Begun, InItsSlot, AtWord, AtDoubleMiss, AtModification, AtService}
+use Rattle.ds_refinement.specs.Course.{Begun, InItsSlot, AtWord, AtDoubleMiss, AtModification, AtService}
 use Rattle.ds_refinement.specs.Needs.{page_of, asked_by, asked_where, pages_of}
 use Rattle.ds_refinement.specs.Counts.{Counts, one_more, one_written, one_tabled, one_copied, place_of, fresh}
 

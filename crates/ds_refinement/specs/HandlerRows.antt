@@ -6,14 +6,14 @@ use Rattle.ds_isa.specs.Registers.{zero_registers}
 use Rattle.ds_tlb.specs.declared.entry.Entry.{Entry}
 use Rattle.ds_cp0.specs.System.{System, at_start, is_user}
 use Rattle.ds_refill.specs.Handler.{address_of, phase_of}
-use Rattle.ds_refill_laws.specs.Refill.{lent, late_of, at_word}
+use Rattle.ds_refill.specs.Refill.{lent, late_of, at_word}
 use Rattle.ds_tables.specs.Places.{Places}
 use Rattle.ds_dev.specs.Bus.{BusState}
 use Rattle.ds_core.specs.Core.{CoreState}
 use Rattle.ds_pagemap.specs.Machine.{State}
 use Rattle.ds_refinement.specs.Held.{Held, Kept, Own}
 use Rattle.ds_refinement.specs.Units.{InService}
-use Rattle.ds_handler.specs.Refills.{after_refill}
+use Rattle.ds_refill.specs.Refills.{after_refill}
 use Rattle.ds_refinement.specs.Handling.{handler_status, nested_status, HasBase, IsSet, AtContext, AtAddress, AtLoad, AtPause, AtMove, AtClear, AtWrite, AtJump, AtReturn, index_of, next_of, in_slot, Asked, Lends, Answers, has_touched, touches, InHandler, InDouble}
 use Rattle.ds_refinement.specs.Copying.{InCopy}
 use Rattle.ds_refinement.specs.Stands.{OnProcessor}

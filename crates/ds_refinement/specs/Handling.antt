@@ -10,7 +10,7 @@ use Rattle.ds_cp0.specs.declared.exception.Exception.{Exception}
 use Rattle.ds_cp0.specs.Codes.{is_translation}
 use Rattle.ds_cp0.specs.System.{System, asid_of, pushed}
 use Rattle.ds_refill.specs.Handler.{address_of}
-use Rattle.ds_refill_laws.specs.Refill.{lent, late_of}
+use Rattle.ds_refill.specs.Refill.{lent, late_of}
 use Rattle.ds_grants.specs.Buffer.{hi_of}
 use Rattle.ds_grants.specs.Words.{granted_word}
 use Rattle.ds_core.specs.Core.{CoreState}

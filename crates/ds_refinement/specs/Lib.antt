@@ -23,3 +23,9 @@ pub mod Quiet
 pub mod Blocks
 pub mod Runs
 pub mod StationRows
+pub mod KeptEntries
+pub mod Cost
+pub mod Course
+pub mod CourseSteps
+pub mod Tally
+pub mod BoundRows

@@ -11,7 +11,7 @@ use Rattle.ds_policy.specs.declared.access.Verdict.TheVariants.{Allowed, Denied}
 use Rattle.ds_policy.specs.Pages.{decide, bytes_of}
 use Rattle.ds_pagemap.specs.Machine.{State, process_of, touched}
 use Rattle.ds_pagemap.specs.Unit.{Outcome, Went, Branched, Called, Stopped, instruction}
-use Rattle.ds_bounds.specs.Course.{Pages}
+use Rattle.ds_refinement.specs.Course.{Pages}
 
 -- the page of an address
 abbrev pub page_of : ℕ → ℕ

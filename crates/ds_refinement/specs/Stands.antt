@@ -12,7 +12,7 @@ use Rattle.ds_dev.specs.Bus.{BusState}
 use Rattle.ds_core.specs.Core.{CoreState}
 use Rattle.ds_pagemap.specs.Machine.{State, process_of}
 use Rattle.ds_pagemap.specs.Boundary.{has_passed}
-use Rattle.ds_bounds.specs.Tally.{IsTallied}
+use Rattle.ds_refinement.specs.Tally.{IsTallied}
 use Rattle.ds_refinement.specs.Held.{Held, Kept, Own, bare, vacated, space_of, last_boundary}
 use Rattle.ds_refinement.specs.Units.{user_status, AtStart, InSlot, InService, is_general, has_left_user}
 use Rattle.ds_refinement.specs.Needs.{pages_of}

@@ -1,7 +1,7 @@
 -- What a unit has written into the buffer.
 use Rattle.std.specs.Prelude.{◌≡◌, ◌⊎◌, ℕ, ◌+◌, ◌<◌, ◌≤◌, Contains, Some, slice_get}
 use Rattle.ds_tlb.specs.declared.entry.Entry.{Entry}
-use Rattle.ds_bounds.specs.Tally.{turns}
+use Rattle.ds_refinement.specs.Tally.{turns}
 use Rattle.ds_refinement.specs.Held.{Held, Own}
 
 -- a slot that the unit has written: by a refill, or as one of the first eight for the page of a table

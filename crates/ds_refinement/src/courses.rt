@@ -16,8 +16,9 @@ ghost use Rattle.ds_core.specs.Access.{reached};
 ghost use Rattle.ds_core.specs.Effect.{step};
 ghost use Rattle.ds_refill.specs.Handler.{HasWords};
 ghost use Rattle.ds_refinement.specs.Told.{code_in};
-ghost use Rattle.ds_bounds.specs.Course.{Pages, after_touch};
-ghost use Rattle.ds_bounds.specs.Steps.{HasKeys, Next, table_page};
+ghost use Rattle.ds_refinement.specs.Course.{Pages, after_touch};
+ghost use Rattle.ds_refinement.specs.CourseSteps.{Next, table_page};
+ghost use Rattle.ds_grants.specs.Copies.{HasKeys};
 ghost use Rattle.ds_refinement.specs.Counts.{Counts, course_of, one_more, one_written, one_tabled, one_copied};
 
 /// What a word of the handler changes of the processor is a step of the unit's course.

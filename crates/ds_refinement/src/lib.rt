@@ -7,6 +7,7 @@
 mod asked;
 mod backs;
 mod blocks;
+mod bounds;
 mod branches;
 mod cause;
 mod counts;
@@ -33,6 +34,10 @@ pub use backs::{a_double_miss_goes_back, a_late_copy_goes_back};
 pub use blocks::{
     a_block_is_a_path, a_sound_station_is_ready, an_exception_ends_a_block,
     the_last_boundary_decides,
+};
+pub use bounds::{
+    a_unit_is_short, a_unit_is_tallied, a_units_course_is_short, there_is_room_to_count,
+    what_a_unit_writes_stays, what_was_written_stays,
 };
 pub use branches::{a_branch_done_again_does_the_same, a_touch_leaves_a_link_or_takes_it_away};
 pub use cause::Cause;

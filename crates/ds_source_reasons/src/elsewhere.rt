@@ -1,8 +1,8 @@
 //! Mnemonics of other processors, and what is said of them.
-ghost use Rattle.std.specs.Prelude.{◌≡◌, codes};
-ghost use Rattle.ds_source_reasons.specs.Texts.{has_float_end, is_of_coprocessor, is_of_floating_point, is_of_mips_32, is_of_mips_ii, is_of_mips_iii, is_of_mips_iv, mnemonic_instead};
+ghost use Rattle.std.specs.Prelude.{◌≡◌};
+ghost use Rattle.ds_source_reasons.specs.Texts.{has_float_end, mnemonic_instead};
 
-use crate::macros::{instead_of, is_among};
+use crate::macros::{OTHERS, OTHERS_INSTEAD, instead_of, is_among};
 use crate::texts::{
     AFTER_NO_MNEMONIC, OF_COPROCESSOR, OF_FLOATING_POINT, OF_MIPS_32, OF_MIPS_II, OF_MIPS_III,
     OF_MIPS_IV,
@@ -42,67 +42,23 @@ static COPROCESSORS: [&str; 18] = [
     "lwc3", "mfc2", "mtc2", "sdc2", "swc2", "swc3",
 ];
 
-/// Other words, each with what is said after it.
-macro_rules! other_table {
-    ($pass:ident) => {
-        $pass! {
-            "call" "`.\nA call is `jal x`, and `nop` after it.\n";
-            "cmp" "`.\nThere are no flags. Write `slt $at, $t0, $t1`, and branch by `$at`.\n";
-            "dec" "`.\nWrite `addiu $t0, $t0, -1`.\n";
-            "ecall" "`.\nWrite `syscall`, with the call's number in `$v0`.\n";
-            "eret" "`.\nIt came with MIPS III. Write `jr $k0`, and `rfe` after it.\n";
-            "inc" "`.\nWrite `addiu $t0, $t0, 1`.\n";
-            "int" "`.\nWrite `syscall`, with the call's number in `$v0`.\n";
-            "je" "`.\nWrite `beq $t0, $t1, x`, and `nop` after it.\n";
-            "jmp" "`.\nWrite `j x`, and `nop` after it.\n";
-            "jne" "`.\nWrite `bne $t0, $t1, x`, and `nop` after it.\n";
-            "mov" "`.\nWrite `addu $t0, $t1, $zero`, or `addiu $t0, $zero, 5` for a number.\n";
-            "mv" "`.\nWrite `addu $t0, $t1, $zero`.\n";
-            "pop" "`.\nWrite `lw $t0, 0($sp)` and `addiu $sp, $sp, 4`.\n";
-            "push" "`.\nWrite `addiu $sp, $sp, -4` and `sw $t0, 0($sp)`.\n";
-            "ret" "`.\nA return is `jr $ra`, and `nop` after it.\n";
-            "sar" "`.\nWrite `sra $t0, $t1, 2`.\n";
-            "shl" "`.\nWrite `sll $t0, $t1, 2`.\n";
-            "shr" "`.\nWrite `srl $t0, $t1, 2`.\n";
-            "subi" "`.\nWrite `addi` with the number below 0: `addi $t0, $t1, -8`.\n";
-            "subiu" "`.\nWrite `addiu` with the number below 0: `addiu $t0, $t1, -8`.\n";
-            "svc" "`.\nWrite `syscall`, with the call's number in `$v0`.\n";
-            "swi" "`.\nWrite `syscall`, with the call's number in `$v0`.\n";
-        }
-    };
-}
-
-macro_rules! names {
-    ($($name:literal $instead:literal;)*) => { [$($name),*] };
-}
-
-macro_rules! texts {
-    ($($name:literal $instead:literal;)*) => { [$($instead),*] };
-}
-
-/// The other words.
-static OTHERS: [&str; 22] = other_table!(names);
-
-/// What is said after each.
-static OTHERS_INSTEAD: [&str; 22] = other_table!(texts);
-
 /// What is said after a word that is no mnemonic: which processors have it, or what is written in
 /// its place.
 #[tactic(auto, unfolding(crate::specs::Texts::mnemonic_instead))]
 pub(crate) fn mnemonic_instead(name: &[u8]) -> &'static str
     ensures { result.now ≡ mnemonic_instead name.now }
 {
-    if is_of_mips_ii(name) {
+    if is_among(MIPS_II.as_slice(), name) {
         OF_MIPS_II
-    } else if is_of_mips_iii(name) {
+    } else if is_among(MIPS_III.as_slice(), name) {
         OF_MIPS_III
-    } else if is_of_mips_iv(name) {
+    } else if is_among(MIPS_IV.as_slice(), name) {
         OF_MIPS_IV
-    } else if is_of_mips_32(name) {
+    } else if is_among(MIPS_32.as_slice(), name) {
         OF_MIPS_32
-    } else if is_of_floating_point(name) {
+    } else if is_among(FLOATING_POINT.as_slice(), name) || has_float_end(name) {
         OF_FLOATING_POINT
-    } else if is_of_coprocessor(name) {
+    } else if is_among(COPROCESSORS.as_slice(), name) {
         OF_COPROCESSOR
     } else {
         instead_of(
@@ -112,48 +68,6 @@ pub(crate) fn mnemonic_instead(name: &[u8]) -> &'static str
             name,
         )
     }
-}
-
-/// Whether an instruction came with MIPS II.
-fn is_of_mips_ii(name: &[u8]) -> bool
-    ensures { result ≡ is_of_mips_ii name.now }
-{
-    is_among(MIPS_II.as_slice(), name)
-}
-
-/// Whether an instruction came with MIPS III.
-fn is_of_mips_iii(name: &[u8]) -> bool
-    ensures { result ≡ is_of_mips_iii name.now }
-{
-    is_among(MIPS_III.as_slice(), name)
-}
-
-/// Whether an instruction came with MIPS IV.
-fn is_of_mips_iv(name: &[u8]) -> bool
-    ensures { result ≡ is_of_mips_iv name.now }
-{
-    is_among(MIPS_IV.as_slice(), name)
-}
-
-/// Whether an instruction came with MIPS32.
-fn is_of_mips_32(name: &[u8]) -> bool
-    ensures { result ≡ is_of_mips_32 name.now }
-{
-    is_among(MIPS_32.as_slice(), name)
-}
-
-/// Whether an instruction is of a floating-point unit.
-fn is_of_floating_point(name: &[u8]) -> bool
-    ensures { result ≡ is_of_floating_point name.now }
-{
-    is_among(FLOATING_POINT.as_slice(), name) || has_float_end(name)
-}
-
-/// Whether an instruction is of coprocessor 2 or 3.
-fn is_of_coprocessor(name: &[u8]) -> bool
-    ensures { result ≡ is_of_coprocessor name.now }
-{
-    is_among(COPROCESSORS.as_slice(), name)
 }
 
 /// Whether a word ends as the instructions do that compute with single, double or fixed numbers of

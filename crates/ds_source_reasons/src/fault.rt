@@ -1,15 +1,14 @@
 //! The reasons of the faults of a source.
 ghost use Rattle.std.specs.Prelude.{◌≡◌, ◌++◌, ◌-◌, OnOk, option_map};
 ghost use Rattle.ds_asm.specs.Assembling.{source_fault_line};
-ghost use Rattle.ds_source_reasons.specs.PlainRanges.{plain_range};
+ghost use Rattle.ds_source_reasons.specs.Plain.{plain_range};
 ghost use Rattle.ds_source_reasons.specs.Ranges.{range_reason_of, target_reason_of};
 ghost use Rattle.ds_source_reasons.specs.Reasons.{or_next};
 ghost use Rattle.ds_source_reasons.specs.Told.{after_line, after_lines, fault_text, line_after, place_after, plain_fault, reason_at, told_reason};
 
-use crate::line::syntax_reason;
-use crate::range::range_reason;
+use crate::line::unread_reason;
+use crate::range::{range_reason, target_reason};
 use crate::reason::{RangeReason, SyntaxReason};
-use crate::target::target_reason;
 use crate::told::{push_range_reason, push_syntax_reason};
 use ds_asm::{SourceFault, first_line, source_line};
 use std::alloc::AllocError;
@@ -83,19 +82,14 @@ fn place_past(place: u64, line: &[u8]) -> u64
     (place % 4 + source_line(line).size % 4) % 4
 }
 
-/// The reason of a fault of this line, which begins at a place of the image.
+/// The reason of a fault that the assembler tells of this line, which begins at a place of the
+/// image.
 pub fn fault_reason(fault: SourceFault, place: u64, line: &[u8]) -> Option<FaultReason<'_>>
     ensures { option_map plain_fault result ≡ told_reason fault place line.now }
 {
     match fault {
-        SourceFault::Syntax(_) => match syntax_reason(line) {
-            Some(reason) => Some(FaultReason::Syntax(reason)),
-            None => None,
-        },
-        SourceFault::Range(_) => match range_or_target(place, line) {
-            Some(reason) => Some(FaultReason::Range(reason)),
-            None => None,
-        },
+        SourceFault::Syntax(_) => Some(FaultReason::Syntax(unread_reason(line))),
+        SourceFault::Range(_) => Some(FaultReason::Range(range_or_target(place, line)?)),
         SourceFault::UnknownLabel(_) | SourceFault::DoubleLabel(_) | SourceFault::TooLong(_) => {
             None
         }

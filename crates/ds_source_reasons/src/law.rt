@@ -2,7 +2,7 @@
 ghost use Rattle.std.specs.Prelude.{◌≡◌, ◌≤◌, ◌==◌, ◌+◌, ◌%◌, ℕ, not, is_some};
 ghost use Rattle.ds_asm.specs.Assembly.{branch_field, jump_field, origin};
 ghost use Rattle.ds_asm.specs.Lines.{line_of};
-ghost use Rattle.ds_source_reasons.specs.Ranges.{is_out_of_range, range_reason_of};
+ghost use Rattle.ds_source_reasons.specs.Ranges.{cause_in, range_reason_of};
 ghost use Rattle.ds_source_reasons.specs.Reasons.{reason_of};
 
 /// The law that a line has a reason exactly where the assembler reads nothing from it.
@@ -11,10 +11,9 @@ pub fn a_reason_is_a_syntax_fault(line: &[u8])
 {}
 
 /// The law that the statement of a line has a reason exactly where the assembler can read it and
-/// refuses it at its place, in bytes from the beginning of the image: a number, the place or the
-/// form is none that it may have.
+/// has a cause to refuse it at its place, in bytes from the beginning of the image.
 pub fn a_range_reason_is_a_range_fault(place: u64, line: &[u8])
-    ensures { is_some (range_reason_of place line.now) ≡ is_out_of_range place (line_of line.now) }
+    ensures { is_some (range_reason_of place line.now) ≡ is_some (cause_in place (line_of line.now)) }
 {}
 
 /// The law that in an image of 64 KiB a branch or a jump at a place of it reaches each label of it

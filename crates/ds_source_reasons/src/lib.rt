@@ -5,7 +5,6 @@ mod caret;
 mod characters;
 mod elsewhere;
 mod fault;
-mod form;
 mod law;
 mod likeness;
 mod line;
@@ -14,9 +13,7 @@ mod missing;
 mod operand;
 mod range;
 mod reason;
-mod shape;
 mod statement;
-mod target;
 mod texts;
 mod told;
 
@@ -29,7 +26,6 @@ pub use law::{
 pub use likeness::is_like;
 pub use line::syntax_reason;
 pub use missing::{Labelled, last_word, last_word_place, like_label, push_missing};
-pub use range::range_reason;
+pub use range::{range_reason, target_reason};
 pub use reason::{RangeReason, SyntaxReason, Wanted};
-pub use target::target_reason;
 pub use told::{push_range_reason, push_syntax_reason};

@@ -2,14 +2,15 @@
 ghost use Rattle.std.specs.Prelude.{◌≡◌, ◌==◌, ◌∷◌, [], not, bytes_eq, take, option_map};
 ghost use Rattle.std.specs.List.{find};
 ghost use Rattle.ds_source_reasons.specs.Plain.{plain_reason};
-ghost use Rattle.ds_source_reasons.specs.Reasons.{first_reason, has_dot, is_directive, is_written, labelled_reason, no_label, parts_reason, reason_of, said_reason, statement_text, word_reason};
+ghost use Rattle.ds_source_reasons.specs.Reasons.{is_directive, is_written, no_label, reason_of, said_reason, statement_text, unread_reason};
 
-use crate::characters::{has_byte, split_word};
+use crate::characters::{begins_with, has_byte};
 use crate::macros::is_macro;
 use crate::reason::SyntaxReason;
 use crate::statement::text_reason;
 use ds_asm::{
-    is_blank, is_digit, is_letter, is_name, split_at_first, trimmed, until, without_back_blanks,
+    is_blank, is_digit, is_letter, is_name, line_of, split_at_first, split_word, trimmed, until,
+    without_back_blanks,
 };
 
 /// Why a line of a source, without its line feed, can't be read. There is none where it can.
@@ -17,42 +18,53 @@ use ds_asm::{
 pub fn syntax_reason(line: &[u8]) -> Option<SyntaxReason<'_>>
     ensures { option_map plain_reason result ≡ reason_of line.now }
 {
-    said_reason(trimmed(until(b'#', line)))
-}
-
-fn said_reason(text: &[u8]) -> Option<SyntaxReason<'_>>
-    ensures { option_map plain_reason result ≡ said_reason text.now }
-{
-    let (_, behind) = split_at_first(b':', text);
-    let reason = parts_reason(text, behind)?;
-    Some(first_reason(text, behind, reason))
-}
-
-fn parts_reason<'a>(text: &'a [u8], behind: Option<&'a [u8]>) -> Option<SyntaxReason<'a>>
-    ensures { option_map plain_reason result
-        ≡ parts_reason text.now (option_map (λ t. t.now) behind.entry) }
-{
-    match behind {
-        None => text_reason(text),
-        Some(rest) => {
-            let name = until(b':', text);
-            if is_name(name) {
-                labelled_reason(trimmed(rest))
-            } else {
-                Some(no_label(name))
-            }
-        }
+    match line_of(line) {
+        Some(_) => None,
+        None => Some(unread_reason(line)),
     }
 }
 
-fn labelled_reason(text: &[u8]) -> Option<SyntaxReason<'_>>
-    ensures { option_map plain_reason result ≡ labelled_reason text.now }
+/// Why a line can't be read from which the assembler reads nothing.
+#[tactic(auto, unfolding(crate::specs::Reasons::unread_reason))]
+pub(crate) fn unread_reason(line: &[u8]) -> SyntaxReason<'_>
+    ensures { plain_reason result ≡ unread_reason line.now }
 {
-    let reason = text_reason(text)?;
-    if has_byte(b':', text) {
-        Some(SyntaxReason::SecondColon)
+    said_reason(trimmed(until(b'#', line)))
+}
+
+/// Why what a line says up to its comment can't be read.
+fn said_reason(text: &[u8]) -> SyntaxReason<'_>
+    ensures { plain_reason result ≡ said_reason text.now }
+{
+    let statement = statement_text(text);
+    let (name, _) = split_word(statement);
+    if has_mark(text) {
+        SyntaxReason::ByteOrderMark
+    } else if begins_with(b'.', name) && !is_directive(name) {
+        SyntaxReason::NoSuchDirective(name)
+    } else if is_macro(name) {
+        SyntaxReason::Macro(name)
+    } else if let Some(byte) = odd_byte(text) {
+        SyntaxReason::NoSuchByte(*byte)
+    } else if has_byte(b'\r', text) {
+        SyntaxReason::CarriageReturn
+    } else if has_byte(b':', text) && !is_name(until(b':', text)) {
+        no_label(until(b':', text))
+    } else if has_byte(b':', statement) {
+        SyntaxReason::SecondColon
     } else {
-        Some(reason)
+        text_reason(statement)
+    }
+}
+
+/// What stands after the label, where there is one.
+pub(crate) fn statement_text(text: &[u8]) -> &[u8]
+    ensures { result.now ≡ statement_text text.now }
+{
+    let (name, behind) = split_at_first(b':', text);
+    match behind {
+        Some(rest) if is_name(name) => trimmed(rest),
+        _ => text,
     }
 }
 
@@ -67,75 +79,14 @@ fn no_label(name: &[u8]) -> SyntaxReason<'_>
     }
 }
 
-/// The first reason of a text that has this one, with what stands after its colon.
-fn first_reason<'a>(
-    text: &'a [u8],
-    behind: Option<&'a [u8]>,
-    reason: SyntaxReason<'a>,
-) -> SyntaxReason<'a>
-    ensures { plain_reason result ≡ first_reason text.now
-        (option_map (λ t. t.now) behind.entry) (plain_reason reason.entry) }
-{
-    if has_mark(text) {
-        return SyntaxReason::ByteOrderMark;
-    }
-    let (word, _) = split_word(statement_text(text, behind));
-    if let Some(other) = word_reason(word) {
-        return other;
-    }
-    if let Some(byte) = odd_byte(text) {
-        return SyntaxReason::NoSuchByte(*byte);
-    }
-    if has_byte(b'\r', text) {
-        return SyntaxReason::CarriageReturn;
-    }
-    reason
-}
-
-/// What stands after the label, where there is one.
-fn statement_text<'a>(text: &'a [u8], behind: Option<&'a [u8]>) -> &'a [u8]
-    ensures { result.now ≡ statement_text text.now (option_map (λ t. t.now) behind.entry) }
-{
-    match behind {
-        None => text,
-        Some(rest) => {
-            if is_name(until(b':', text)) {
-                trimmed(rest)
-            } else {
-                text
-            }
-        }
-    }
-}
-
 fn has_mark(text: &[u8]) -> bool
     ensures { result ≡ bytes_eq (take 3 text.now) (0xEF ∷ 0xBB ∷ 0xBF ∷ []) }
 {
     text.starts_with(&[0xEF, 0xBB, 0xBF])
 }
 
-fn word_reason(name: &[u8]) -> Option<SyntaxReason<'_>>
-    ensures { option_map plain_reason result ≡ word_reason name.now }
-{
-    if has_dot(name) && !is_directive(name) {
-        Some(SyntaxReason::NoSuchDirective(name))
-    } else if is_macro(name) {
-        Some(SyntaxReason::Macro(name))
-    } else {
-        None
-    }
-}
-
-fn has_dot(name: &[u8]) -> bool
-    ensures { result ≡ has_dot name.now }
-{
-    match name {
-        [] => false,
-        [first, ..] => *first == b'.',
-    }
-}
-
-fn is_directive(name: &[u8]) -> bool
+/// Whether a word is a directive.
+pub(crate) fn is_directive(name: &[u8]) -> bool
     ensures { result ≡ is_directive name.now }
 {
     name == b".word".as_slice() || name == b".byte".as_slice() || name == b".space".as_slice()

@@ -1,7 +1,7 @@
 //! Words of other assemblers that this one has not, and what is written in their place.
 ghost use Rattle.std.specs.Prelude.{◌≡◌, bytes_eq, map, position};
 ghost use Rattle.std.specs.List.{list_any, slice_get};
-ghost use Rattle.ds_source_reasons.specs.Reasons.{is_macro, macros_with};
+ghost use Rattle.ds_source_reasons.specs.Reasons.{is_macro};
 ghost use Rattle.ds_source_reasons.specs.Texts.{at_place, directive_instead, macro_instead, text_at};
 
 /// The macros of other assemblers, each with what is said after its name.
@@ -59,6 +59,36 @@ macro_rules! directive_table {
     };
 }
 
+/// Words of other processors, each with what is said after it.
+macro_rules! other_table {
+    ($pass:ident) => {
+        $pass! {
+            "call" "`.\nA call is `jal x`, and `nop` after it.\n";
+            "cmp" "`.\nThere are no flags. Write `slt $at, $t0, $t1`, and branch by `$at`.\n";
+            "dec" "`.\nWrite `addiu $t0, $t0, -1`.\n";
+            "ecall" "`.\nWrite `syscall`, with the call's number in `$v0`.\n";
+            "eret" "`.\nIt came with MIPS III. Write `jr $k0`, and `rfe` after it.\n";
+            "inc" "`.\nWrite `addiu $t0, $t0, 1`.\n";
+            "int" "`.\nWrite `syscall`, with the call's number in `$v0`.\n";
+            "je" "`.\nWrite `beq $t0, $t1, x`, and `nop` after it.\n";
+            "jmp" "`.\nWrite `j x`, and `nop` after it.\n";
+            "jne" "`.\nWrite `bne $t0, $t1, x`, and `nop` after it.\n";
+            "mov" "`.\nWrite `addu $t0, $t1, $zero`, or `addiu $t0, $zero, 5` for a number.\n";
+            "mv" "`.\nWrite `addu $t0, $t1, $zero`.\n";
+            "pop" "`.\nWrite `lw $t0, 0($sp)` and `addiu $sp, $sp, 4`.\n";
+            "push" "`.\nWrite `addiu $sp, $sp, -4` and `sw $t0, 0($sp)`.\n";
+            "ret" "`.\nA return is `jr $ra`, and `nop` after it.\n";
+            "sar" "`.\nWrite `sra $t0, $t1, 2`.\n";
+            "shl" "`.\nWrite `sll $t0, $t1, 2`.\n";
+            "shr" "`.\nWrite `srl $t0, $t1, 2`.\n";
+            "subi" "`.\nWrite `addi` with the number below 0: `addi $t0, $t1, -8`.\n";
+            "subiu" "`.\nWrite `addiu` with the number below 0: `addiu $t0, $t1, -8`.\n";
+            "svc" "`.\nWrite `syscall`, with the call's number in `$v0`.\n";
+            "swi" "`.\nWrite `syscall`, with the call's number in `$v0`.\n";
+        }
+    };
+}
+
 macro_rules! names {
     ($($name:literal $instead:literal;)*) => { [$($name),*] };
 }
@@ -68,7 +98,7 @@ macro_rules! texts {
 }
 
 /// The names of the macros.
-pub(crate) static MACROS: [&str; 30] = macro_table!(names);
+static MACROS: [&str; 30] = macro_table!(names);
 
 /// What is said after the name of each macro.
 static MACROS_INSTEAD: [&str; 30] = macro_table!(texts);
@@ -79,6 +109,12 @@ static DIRECTIVES: [&str; 9] = directive_table!(names);
 /// What is said after the name of each.
 static DIRECTIVES_INSTEAD: [&str; 9] = directive_table!(texts);
 
+/// The words of other processors.
+pub(crate) static OTHERS: [&str; 22] = other_table!(names);
+
+/// What is said after each.
+pub(crate) static OTHERS_INSTEAD: [&str; 22] = other_table!(texts);
+
 /// What is said after the name of any other directive.
 const OTHER_DIRECTIVE: &str = "`.\nThere are `.word x`, `.byte n` and `.space n`.\n";
 
@@ -87,26 +123,7 @@ const OTHER_DIRECTIVE: &str = "`.\nThere are `.word x`, `.byte n` and `.space n`
 pub(crate) fn is_macro(name: &[u8]) -> bool
     ensures { result ≡ is_macro name.now }
 {
-    match name {
-        [] => false,
-        [first, ..] => is_among(macros_with(*first), name),
-    }
-}
-
-/// The macros whose names begin with a character.
-fn macros_with(first: u8) -> &'static [&'static str]
-    ensures { map (λ m. m.now) result.now ≡ macros_with first }
-{
-    match first {
-        b'a' => &MACROS[..1],
-        b'b' => &MACROS[1..13],
-        b'l' => &MACROS[13..15],
-        b'm' => &MACROS[15..18],
-        b'n' => &MACROS[18..21],
-        b'r' => &MACROS[21..25],
-        b's' => &MACROS[25..],
-        _ => &[],
-    }
+    is_among(MACROS.as_slice(), name)
 }
 
 /// Whether a word is one of these names.

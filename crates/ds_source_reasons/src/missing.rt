@@ -9,8 +9,9 @@ ghost use Rattle.ds_source_reasons.specs.Missing.{first_like, is_of_word, labell
 use crate::characters::front_of;
 use crate::likeness::is_like;
 use crate::texts::{AFTER_NO_LABEL, IN_LINE, LIKE_LABEL, NO_LABEL, STOP};
-use crate::told::{push_decimal, push_quoted, push_text};
+use crate::told::{push_quoted, push_text};
 use ds_asm::{first_line, is_digit, is_letter, source_line, until, without_back_blanks};
+use ds_text::sheet::push_decimal;
 use std::alloc::AllocError;
 
 /// How many bytes of a source are looked through for a label, from its beginning.

@@ -1,83 +1,82 @@
-//! What may stand in the place of an operand.
-ghost use Rattle.std.specs.Prelude.{◌≡◌, ◌+◌, ◌^◌, ◌<◌, [], option_map, map, length};
+//! Why operands can't be read.
+ghost use Rattle.std.specs.Prelude.{◌≡◌, ◌≤◌, ◌+◌, ◌^◌, ◌<◌, option_map, map, length};
 ghost use Rattle.ds_asm.specs.Forms.{operand_of};
-ghost use Rattle.ds_source_reasons.specs.Operands.{base_of, is_address, is_base, is_number_or_label, fits};
+ghost use Rattle.ds_source_reasons.specs.Operands.{base_of, least_of, wanted_by};
 ghost use Rattle.ds_source_reasons.specs.Plain.{plain_reason};
-ghost use Rattle.ds_source_reasons.specs.Reasons.{bad_base, bad_register, counted, counted_by, has_dollar, misfit, operand_count, operand_reason, operands_reason};
+ghost use Rattle.ds_source_reasons.specs.Reasons.{counted, counted_by, is_no_register, misfit, operand_count, operands_reason, register_in};
 
-use crate::characters::{count_commas, split_word};
-use crate::form::{least_of, wanted_by};
+use crate::characters::{begins_with, count_commas};
 use crate::reason::{SyntaxReason, Wanted};
-use ds_asm::{
-    Operand, before_close, has_comma, is_name, number_of, register_of, split_at_first,
-    system_register_of, trimmed,
-};
+use ds_asm::{Operand, before_close, has_comma, register_of, split_at_first, split_word, trimmed};
 
-/// The reason of the operands of a statement, of which `left` is the text.
+/// Why the operands of a statement can't be read, of which `left` is the text.
 #[tactic(auto, unfolding(crate::specs::Reasons::operands_reason))]
 pub(crate) fn operands_reason<'a>(
     number: u64,
     operands: &[Operand],
     left: Option<&'a [u8]>,
-) -> Option<SyntaxReason<'a>>
+) -> SyntaxReason<'a>
     requires { number + length operands.now < 2 ^ 64 }
-    ensures { option_map plain_reason result
+    ensures { plain_reason result
         ≡ operands_reason number (map operand_of operands.now) (option_map (λ t. t.now) left.entry) }
 {
     match operands {
         [] => match left {
-            None => None,
-            Some(text) => Some(SyntaxReason::TextAfter(text)),
+            Some(text) => SyntaxReason::TextAfter(text),
+            None => SyntaxReason::TextAfter(&[]),
         },
         [operand, more @ ..] => match left {
             None => {
                 if operand.is_code() {
                     operands_reason(number + 1, more, None)
                 } else {
-                    Some(SyntaxReason::Operand {
+                    SyntaxReason::Operand {
                         number,
                         wanted: wanted_by(*operand),
                         found: &[],
-                    })
+                    }
                 }
             }
             Some(text) => {
                 if operand.is_link() && !has_comma(text) {
-                    operands_reason(number, more, left)
-                } else {
-                    let (front, behind) = split_at_first(b',', text);
-                    match operand_reason(number, wanted_by(*operand), trimmed(front)) {
-                        Some(reason) => Some(reason),
-                        None => operands_reason(number + 1, more, behind),
-                    }
+                    return operands_reason(number, more, left);
                 }
+                let (front, behind) = split_at_first(b',', text);
+                let front = trimmed(front);
+                if operand.takes(front) {
+                    return operands_reason(number + 1, more, behind);
+                }
+                let (word, _) = split_word(front);
+                misfit(number, wanted_by(*operand), operand.takes(word), front)
             }
         },
     }
 }
 
-/// The reason of an operand, if it can't stand in its place.
-pub(crate) fn operand_reason(number: u64, wanted: Wanted, text: &[u8]) -> Option<SyntaxReason<'_>>
-    ensures { option_map plain_reason result ≡ operand_reason number wanted text.now }
+/// What has to stand in the place of an operand.
+fn wanted_by(operand: Operand) -> Wanted
+    ensures { result ≡ wanted_by (operand_of operand) }
 {
-    if fits(wanted, text) {
-        None
-    } else {
-        Some(misfit(number, wanted, text))
+    match operand {
+        Operand::Register(_) | Operand::LinkRegister => Wanted::Register,
+        Operand::SystemRegister => Wanted::SystemRegister,
+        Operand::Number(_) | Operand::Code | Operand::Signed => Wanted::Number,
+        Operand::Branch | Operand::Jump => Wanted::Label,
+        Operand::Indexed => Wanted::Address,
     }
 }
 
-/// Why a text can't stand in the place of an operand.
-pub(crate) fn misfit(number: u64, wanted: Wanted, text: &[u8]) -> SyntaxReason<'_>
-    ensures { plain_reason result ≡ misfit number wanted text.now }
+/// Why a text can't stand in the place of an operand, where it is known whether its first word fits.
+pub(crate) fn misfit(number: u64, wanted: Wanted, fits: bool, text: &[u8]) -> SyntaxReason<'_>
+    ensures { plain_reason result ≡ misfit number wanted fits text.now }
 {
-    let (word, after) = split_word(text);
-    if fits(wanted, word) {
+    if fits {
+        let (_, after) = split_word(text);
         return SyntaxReason::TextAfter(after);
     }
-    match bad_register(wanted, text) {
-        Some(reason) => reason,
-        None => SyntaxReason::Operand {
+    match register_in(wanted, text) {
+        Some(name) if is_no_register(name) => SyntaxReason::NoSuchRegister(name),
+        _ => SyntaxReason::Operand {
             number,
             wanted,
             found: text,
@@ -85,78 +84,21 @@ pub(crate) fn misfit(number: u64, wanted: Wanted, text: &[u8]) -> SyntaxReason<'
     }
 }
 
-fn bad_register(wanted: Wanted, text: &[u8]) -> Option<SyntaxReason<'_>>
-    ensures { option_map plain_reason result ≡ bad_register wanted text.now }
+/// What stands where a general register has to stand.
+fn register_in(wanted: Wanted, text: &[u8]) -> Option<&[u8]>
+    ensures { option_map (λ t. t.now) result ≡ register_in wanted text.now }
 {
     match wanted {
-        Wanted::Register => {
-            if has_dollar(text) {
-                Some(SyntaxReason::NoSuchRegister(text))
-            } else {
-                None
-            }
-        }
-        Wanted::Address => bad_base(base_of(text)),
+        Wanted::Register => Some(text),
+        Wanted::Address => base_of(text),
         Wanted::SystemRegister | Wanted::Number | Wanted::Label | Wanted::NumberOrLabel => None,
     }
 }
 
-fn bad_base(base: Option<&[u8]>) -> Option<SyntaxReason<'_>>
-    ensures { option_map plain_reason result
-        ≡ bad_base (option_map (λ t. t.now) base.entry) }
+fn is_no_register(name: &[u8]) -> bool
+    ensures { result ≡ is_no_register name.now }
 {
-    let base = base?;
-    if has_dollar(base) && register_of(base).is_none() {
-        Some(SyntaxReason::NoSuchRegister(base))
-    } else {
-        None
-    }
-}
-
-fn has_dollar(text: &[u8]) -> bool
-    ensures { result ≡ has_dollar text.now }
-{
-    match text {
-        [] => false,
-        [first, ..] => *first == b'$',
-    }
-}
-
-/// Whether a text is what has to stand in a place.
-#[tactic(auto, unfolding(crate::specs::Operands::fits))]
-pub(crate) fn fits(wanted: Wanted, text: &[u8]) -> bool
-    ensures { result ≡ fits wanted text.now }
-{
-    match wanted {
-        Wanted::Register => register_of(text).is_some(),
-        Wanted::SystemRegister => system_register_of(text).is_some(),
-        Wanted::Number => number_of(text).is_some(),
-        Wanted::Label => is_name(text),
-        Wanted::Address => is_address(text),
-        Wanted::NumberOrLabel => is_number_or_label(text),
-    }
-}
-
-fn is_number_or_label(text: &[u8]) -> bool
-    ensures { result ≡ is_number_or_label text.now }
-{
-    number_of(text).is_some() || is_name(text)
-}
-
-fn is_address(text: &[u8]) -> bool
-    ensures { result ≡ is_address text.now }
-{
-    let (offset, _) = split_at_first(b'(', text);
-    is_base(base_of(text)) && number_of(trimmed(offset)).is_some()
-}
-
-fn is_base(base: Option<&[u8]>) -> bool
-    ensures { result ≡ is_base (option_map (λ t. t.now) base.entry) }
-{
-    match base {
-        None => false,
-        Some(base) => register_of(base).is_some(),
-    }
+    begins_with(b'$', name) && register_of(name).is_none()
 }
 
 /// What stands in the parentheses at the end of an address.
@@ -213,4 +155,15 @@ pub(crate) fn counted_by<'a>(
             reason,
         ),
     }
+}
+
+/// How many operands have to be written.
+fn least_of(operands: &[Operand]) -> usize
+    ensures exact { result ≡ least_of (map operand_of operands.now) }
+    ensures within { result ≤ length operands.now }
+{
+    operands
+        .iter()
+        .filter(|o| !(o.is_code() || o.is_link()))
+        .count()
 }

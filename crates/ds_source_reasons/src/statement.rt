@@ -1,52 +1,50 @@
 //! The reason of a statement.
 ghost use Rattle.std.specs.Prelude.{◌≡◌, option_map};
 ghost use Rattle.ds_asm.specs.Forms.{written_of};
+ghost use Rattle.ds_asm.specs.Lines.{after_mnemonic, mnemonic_of};
 ghost use Rattle.ds_source_reasons.specs.Plain.{plain_reason};
-ghost use Rattle.ds_source_reasons.specs.Reasons.{directive_reason, has_upper_case, instruction_reason, no_mnemonic, one_number, statement_reason, text_reason};
+ghost use Rattle.ds_source_reasons.specs.Reasons.{directive_reason, has_upper_case, instruction_reason, no_mnemonic, one_number, statement_reason};
 
-use crate::characters::split_word;
-use crate::operand::{counted_by, fits, misfit, operand_count, operands_reason};
+use crate::line::is_directive;
+use crate::operand::{counted_by, misfit, operand_count, operands_reason};
 use crate::reason::{SyntaxReason, Wanted};
-use ds_asm::{Form, form_named};
+use ds_asm::{Form, form_named, split_word, statement_named};
 
-/// The reason of the text of a statement; an empty one has none.
-pub(crate) fn text_reason(text: &[u8]) -> Option<SyntaxReason<'_>>
-    ensures { option_map plain_reason result ≡ text_reason text.now }
+/// Why the text of a statement can't be read.
+pub(crate) fn text_reason(text: &[u8]) -> SyntaxReason<'_>
+    ensures { plain_reason result
+        ≡ statement_reason (mnemonic_of text.now) (after_mnemonic text.now) }
 {
-    if text.is_empty() {
-        return None;
-    }
     let (name, after) = split_word(text);
     let left = if after.is_empty() { None } else { Some(after) };
     statement_reason(name, left)
 }
 
 #[tactic(auto, unfolding(crate::specs::Reasons::statement_reason))]
-fn statement_reason<'a>(name: &'a [u8], left: Option<&'a [u8]>) -> Option<SyntaxReason<'a>>
-    ensures { option_map plain_reason result
+fn statement_reason<'a>(name: &'a [u8], left: Option<&'a [u8]>) -> SyntaxReason<'a>
+    ensures { plain_reason result
         ≡ statement_reason name.now (option_map (λ t. t.now) left.entry) }
 {
     if name == b".word".as_slice() {
-        directive_reason(Wanted::NumberOrLabel, left)
-    } else if name == b".byte".as_slice() || name == b".space".as_slice() {
-        directive_reason(Wanted::Number, left)
+        directive_reason(name, Wanted::NumberOrLabel, left)
+    } else if is_directive(name) {
+        directive_reason(name, Wanted::Number, left)
     } else {
         instruction_reason(name, left, form_named(name))
     }
 }
 
-fn directive_reason(wanted: Wanted, left: Option<&[u8]>) -> Option<SyntaxReason<'_>>
-    ensures { option_map plain_reason result
-        ≡ directive_reason wanted (option_map (λ t. t.now) left.entry) }
+/// Why a directive can't be read, which has one operand.
+fn directive_reason<'a>(name: &[u8], wanted: Wanted, left: Option<&'a [u8]>) -> SyntaxReason<'a>
+    ensures { plain_reason result
+        ≡ directive_reason name.now wanted (option_map (λ t. t.now) left.entry) }
 {
     match left {
-        None => Some(SyntaxReason::OneNumber(0)),
+        None => SyntaxReason::OneNumber(0),
         Some(text) => {
-            if fits(wanted, text) {
-                None
-            } else {
-                Some(one_number(operand_count(left), misfit(1, wanted, text)))
-            }
+            let (word, _) = split_word(text);
+            let fits = statement_named(name, Some(word)).is_some();
+            one_number(operand_count(left), misfit(1, wanted, fits, text))
         }
     }
 }
@@ -66,16 +64,15 @@ fn instruction_reason<'a>(
     name: &'a [u8],
     left: Option<&'a [u8]>,
     form: Option<&Form>,
-) -> Option<SyntaxReason<'a>>
-    ensures { option_map plain_reason result
-        ≡ instruction_reason name.now (option_map (λ t. t.now) left.entry)
-        (option_map (λ f. written_of f.now) form.entry) }
+) -> SyntaxReason<'a>
+    ensures { plain_reason result ≡ instruction_reason name.now
+        (option_map (λ t. t.now) left.entry) (option_map (λ f. written_of f.now) form.entry) }
 {
     match form {
-        None => Some(no_mnemonic(name)),
+        None => no_mnemonic(name),
         Some(form) => {
-            let reason = operands_reason(1, form.operands, left)?;
-            Some(counted_by(form.operands, left, reason))
+            let reason = operands_reason(1, form.operands, left);
+            counted_by(form.operands, left, reason)
         }
     }
 }

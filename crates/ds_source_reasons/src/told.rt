@@ -1,7 +1,6 @@
 //! The words in which a reason is told.
 ghost use Rattle.std.specs.Prelude.{◌≡◌, ◌++◌, OnOk, decimal};
-ghost use Rattle.ds_source_reasons.specs.Plain.{plain_reason};
-ghost use Rattle.ds_source_reasons.specs.PlainRanges.{plain_range};
+ghost use Rattle.ds_source_reasons.specs.Plain.{plain_range, plain_reason};
 ghost use Rattle.ds_source_reasons.specs.Texts.{after_byte, after_wanted, bound_text, counts_text, least_text, one_number_text, operand_text, operands_text, place_text, is_half, quoted, range_text, reason_text, shown, visible};
 
 use crate::characters::front_of;
@@ -17,7 +16,7 @@ use crate::texts::{
     TARGET, TO, WANTED_ADDRESS, WANTED_LABEL, WANTED_NUMBER, WANTED_NUMBER_OR_LABEL,
     WANTED_REGISTER, WANTED_SYSTEM_REGISTER,
 };
-use itoa::Buffer;
+use ds_text::sheet::push_decimal;
 use std::alloc::AllocError;
 
 /// How many characters of a text are shown at most.
@@ -182,12 +181,6 @@ pub(crate) fn push_text(sheet: &mut Vec<u8>, text: &str) -> Result<(), AllocErro
     ensures { OnOk result (sheet.new.items ≡ sheet.old.items ++ text.now) }
 {
     sheet.extend_from_slice(text.as_bytes())
-}
-
-pub(crate) fn push_decimal(sheet: &mut Vec<u8>, number: u64) -> Result<(), AllocError>
-    ensures { OnOk result (sheet.new.items ≡ sheet.old.items ++ decimal number) }
-{
-    sheet.extend_from_slice(Buffer::new().format(number).as_bytes())
 }
 
 /// What is said after a byte that no statement holds.

@@ -5,7 +5,7 @@ use Rattle.ds_policy.specs.PolicyFacts.{IsGoodPolicy}
 use Rattle.ds_policy.specs.Value.{PolicyValue}
 use Rattle.ds_pagemap.specs.Inputs.{Sources, inputs, inputs_under}
 use Rattle.ds_pagemap.specs.Machine.{State}
-use Rattle.ds_quiet.proofs.Inputs.{one_first}
+use Rattle.ds_promise.proofs.Inputs.{one_first}
 use Rattle.ds_refinement.specs.Held.{Held}
 use Rattle.ds_alone.specs.Deeds.{AsksNothing}
 use Rattle.ds_alone.specs.Tests.{is_alone, nobody_may_give}

@@ -16,10 +16,10 @@ use Rattle.ds_refinement.specs.Stands.{Stands}
 use Rattle.ds_refinement.specs.Runs.{held_goes_on}
 use Rattle.ds_kernel.specs.Ran.{HasRun}
 use Rattle.ds_station.proofs.Runs.{ran_to}
-use Rattle.ds_quiet.specs.Quiet.{IsQuiet}
-use Rattle.ds_quiet.specs.Twins.{IsTwin, HaveRegisters}
-use Rattle.ds_quiet.proofs.Runs.{quiet_text, run_alike, goes_on_alike}
-use Rattle.ds_quiet.proofs.Inputs.{first_registers, one_first}
+use Rattle.ds_promise.specs.Quiet.{IsQuiet}
+use Rattle.ds_promise.specs.Twins.{IsTwin, HaveRegisters}
+use Rattle.ds_promise.proofs.Runs.{quiet_text, run_alike, goes_on_alike}
+use Rattle.ds_promise.proofs.Inputs.{first_registers, one_first}
 use Rattle.ds_promise.proofs.FirstPages.{made_under}
 use Rattle.ds_station.specs.Headline.{Begins, Writes}
 use Rattle.ds_station.specs.Written.{WritesUntouched, ShowsUntouched}

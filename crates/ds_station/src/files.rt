@@ -52,7 +52,7 @@ ghost use Rattle.ds_station.specs.Headline.{
 };
 ghost use Rattle.ds_pagemap.specs.Machine.{State};
 ghost use Rattle.ds_policy.specs.PolicyFacts.{IsGoodPolicy};
-ghost use Rattle.ds_quiet.specs.Quiet.{IsQuiet};
+ghost use Rattle.ds_promise.specs.Quiet.{IsQuiet};
 ghost use Rattle.ds_alone.specs.Deeds.{AsksNothing};
 ghost use Rattle.ds_alone.specs.Tests.{is_alone, nobody_may_give};
 ghost use Rattle.ds_alone.specs.Touched.{IsQuietAlone};

@@ -39,8 +39,8 @@ ghost use Rattle.ds_refinement.specs.Runs.{RunsTo, RunsInTime, RunsWithin, held_
 ghost use Rattle.ds_station.specs.Faults.{IsFaultAfter, IsStartFault, RefusesStep};
 ghost use Rattle.ds_station.specs.Runs.{IsCut};
 ghost use Rattle.ds_station.specs.Alone.{RunsAlone};
-ghost use Rattle.ds_quiet.specs.Quiet.{IsQuiet};
-ghost use Rattle.ds_quiet.specs.Twins.{HaveRegisters};
+ghost use Rattle.ds_promise.specs.Quiet.{IsQuiet};
+ghost use Rattle.ds_promise.specs.Twins.{HaveRegisters};
 ghost use Rattle.ds_station.specs.Written.{RunsGuarded, ShowsUntouched};
 
 use crate::fault::Fault;

@@ -4,7 +4,7 @@ ghost use Rattle.ds_ties.specs.Texts.{numbered, process_text, process_texts, tie
 
 use crate::ties::{Tie, tie_of};
 use ds_policy::{Events, OutOfMemory, Policy, PolicyProcess, Table};
-use itoa::Buffer;
+use ds_text::sheet::push_decimal;
 use std::alloc::{AllocError, Global};
 
 /// A line for each process of a policy that is run with an input: what ties it to the others, or that
@@ -49,7 +49,7 @@ fn push_process(
 {
     let tie = tie_of(table, events.commands(), process);
     sheet.extend_from_slice(b"process ")?;
-    push_decimal(sheet, process)?;
+    push_decimal(sheet, u64::from(process))?;
     push_tie(sheet, tie)
 }
 
@@ -115,12 +115,6 @@ fn push_numbered(
         ≡ sheet.old.items ++ numbered before.now number what.now) }
 {
     sheet.extend_from_slice(before)?;
-    push_decimal(sheet, number)?;
+    push_decimal(sheet, u64::from(number))?;
     sheet.extend_from_slice(what)
-}
-
-fn push_decimal(sheet: &mut Vec<u8>, number: u32) -> Result<(), AllocError>
-    ensures { OnOk result (sheet.new.items ≡ sheet.old.items ++ decimal number) }
-{
-    sheet.extend_from_slice(Buffer::new().format(number).as_bytes())
 }

@@ -29,7 +29,7 @@ use Rattle.ds_station.specs.Faults.{IsNewFault, RefusesStep}
 use Rattle.ds_station.specs.Runs.{IsCut}
 use Rattle.ds_station.specs.declared.fault.Fault.{Fault}
 use Rattle.ds_station.specs.declared.fault.Fault.TheVariants as fault
-use Rattle.ds_view.specs.declared.view.View.{View}
+use Rattle.ds_words.specs.declared.view.View.{View}
 use Rattle.ds_trace.specs.declared.processor.ProcessorCounts.{ProcessorCounts}
 use Rattle.ds_trace.specs.declared.window.WindowEnd.{WindowEnd}
 use Rattle.ds_trace.specs.Processors.{IsEarly, is_within, left_along, left_by, none_processed, told_from, window_end, window_text}

@@ -11,8 +11,8 @@ use Rattle.ds_pagemap.specs.Unit.{unit, unit_of_first}
 use Rattle.ds_pagemap.specs.Boundary.{boundary}
 use Rattle.ds_pagemap.specs.Run.{half_turn}
 use Rattle.ds_refinement.specs.Held.{began_or}
-use Rattle.ds_view.specs.declared.view.View.{View}
-use Rattle.ds_view.specs.Views.{has_lines, shows_entries, shows_switches, shows_turn}
+use Rattle.ds_words.specs.declared.view.View.{View}
+use Rattle.ds_words.specs.Views.{has_lines, shows_entries, shows_switches, shows_turn}
 use Rattle.ds_trace.specs.declared.start.Start.{Start}
 use Rattle.ds_trace.specs.Looks.{Looked, Found}
 use Rattle.ds_trace.specs.Starts.{start_of}

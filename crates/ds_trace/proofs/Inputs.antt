@@ -17,7 +17,7 @@ use Rattle.ds_refinement.specs.Stands.{Stands}
 use Rattle.ds_station.specs.Headline.{Begins, BeginsWith, IsRefused, Loaded, Refuses, loaded}
 use Rattle.ds_station.specs.declared.fault.Fault.{Fault}
 use Rattle.ds_station.specs.declared.fault.Fault.TheVariants as fault
-use Rattle.ds_view.specs.declared.view.View.{View}
+use Rattle.ds_words.specs.declared.view.View.{View}
 use Rattle.ds_trace.specs.Counts.{Counted}
 use Rattle.ds_trace.specs.Ends.{end_text}
 use Rattle.ds_trace.specs.Traces.{counts_along, told_to, trace_along, TraceEndsBy, TraceEndsReally, WritesShort, WritesTold, WritesToldPart, WritesTrace, WritesTraceBy, WritesTracePart, WritesTracePartReally, WritesTraceReally, WritesTraceShort, WritesTraceShortReally}

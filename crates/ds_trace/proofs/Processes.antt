@@ -8,7 +8,7 @@ use Rattle.ds_procs.specs.declared.process.Standing.{Standing}
 use Rattle.ds_pagemap.specs.Machine.{State, Process, process_of, no_process}
 use Rattle.ds_refinement.specs.Held.{Held}
 use Rattle.ds_station.specs.Reads.{address_held, general_held}
-use Rattle.ds_view.specs.declared.view.View.{View}
+use Rattle.ds_words.specs.declared.view.View.{View}
 use Rattle.ds_trace.specs.Changes.{standing_line, standings_text}
 use Rattle.ds_trace.specs.Ends.{process_text}
 use Rattle.ds_trace.specs.Shows.{processes_held}

@@ -26,8 +26,8 @@ use Rattle.ds_station.specs.declared.fault.Fault.{Fault}
 use Rattle.ds_station.specs.declared.stage.Stage.{Stage}
 use Rattle.ds_station.specs.declared.stage.Stage.TheVariants.{Rest, Instruction, Refill, Service, DoubleMiss}
 use Rattle.ds_station.specs.Reads.{stage_of}
-use Rattle.ds_view.specs.declared.view.View.{View}
-use Rattle.ds_view.specs.Views.{is_before}
+use Rattle.ds_words.specs.declared.view.View.{View}
+use Rattle.ds_words.specs.Views.{is_before}
 use Rattle.ds_trace.specs.declared.processor.ProcessorCounts.{ProcessorCounts}
 use Rattle.ds_trace.specs.declared.window.WindowEnd.{WindowEnd}
 use Rattle.ds_trace.specs.Processors.{HasProcessed, HasProcessedFrom, IsEarly, IsPassed, StepsTo, TellsFrom, TellsIf, TellsProcessor, entries_text, entry_text, is_within, left_along, left_by, left_text, none_processed, processor_after, processor_text, stage_after, told_from, total, window_end, window_text}

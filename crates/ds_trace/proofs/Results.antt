@@ -6,7 +6,7 @@ use Rattle.ds_isa.specs.Instruction.{instruction_of}
 use Rattle.ds_pagemap.specs.Machine.{Process}
 use Rattle.ds_refinement.specs.Held.{Held}
 use Rattle.ds_station.specs.Reads.{general_held, memory_held}
-use Rattle.ds_view.specs.declared.view.View.{View}
+use Rattle.ds_words.specs.declared.view.View.{View}
 use Rattle.ds_trace.specs.declared.lines.Told.{Told}
 use Rattle.ds_trace.specs.Lines.{register_of, register_text, result_text}
 use Rattle.ds_trace.specs.Shows.{found_held}

@@ -10,10 +10,10 @@ use Rattle.ds_pagemap.specs.Run.{half_turn, goes_on, is_over, go, after}
 use Rattle.ds_pagemap.proofs.Boundaries.{boundary_owed}
 use Rattle.ds_pagemap.proofs.Touches.{touched-time}
 use Rattle.ds_refinement.specs.Held.{began_or}
-use Rattle.ds_view.specs.declared.view.Only.{Only}
-use Rattle.ds_view.specs.declared.view.Only.TheVariants.{End, Calls, Denials, Switches, Units}
-use Rattle.ds_view.specs.declared.view.View.{View}
-use Rattle.ds_view.specs.Views.{is_end, has_lines, is_before, shows_turn}
+use Rattle.ds_words.specs.declared.view.Only.{Only}
+use Rattle.ds_words.specs.declared.view.Only.TheVariants.{End, Calls, Denials, Switches, Units}
+use Rattle.ds_words.specs.declared.view.View.{View}
+use Rattle.ds_words.specs.Views.{is_end, has_lines, is_before, shows_turn}
 use Rattle.ds_trace.specs.declared.start.Start.{Start}
 use Rattle.ds_trace.specs.Looks.{Looked, Found}
 use Rattle.ds_trace.specs.Changes.{changes_text}

@@ -21,8 +21,8 @@ use Rattle.ds_station.specs.Reads.{address_held, general_held, memory_held, unit
 use Rattle.ds_station.proofs.Headlines.{time_stands, owed_stands}
 use Rattle.ds_station.proofs.Showing.{first_is, seated_by}
 use Rattle.ds_station.proofs.Standings.{as_many, running_here, standing_stands}
-use Rattle.ds_view.specs.declared.view.View.{View}
-use Rattle.ds_view.specs.Views.{shows_turn}
+use Rattle.ds_words.specs.declared.view.View.{View}
+use Rattle.ds_words.specs.Views.{shows_turn}
 use Rattle.ds_trace.specs.declared.start.Start.{Start}
 use Rattle.ds_trace.specs.Starts.{start_at, start_of, general_of}
 use Rattle.ds_trace.specs.Looks.{Looked, Found}

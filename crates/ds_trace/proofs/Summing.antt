@@ -24,9 +24,9 @@ use Rattle.ds_station.specs.declared.fault.Fault.{Fault}
 use Rattle.ds_station.specs.declared.fault.Fault.TheVariants as fault
 use Rattle.ds_station.proofs.Along.{runs_along}
 use Rattle.ds_station.proofs.Headlines.{part_prefix, text_alike, writes_prefix}
-use Rattle.ds_view.specs.declared.view.View.{View}
+use Rattle.ds_words.specs.declared.view.View.{View}
 use Rattle.ds_listing.specs.declared.pages.PageLines.{PageLines}
-use Rattle.ds_view.specs.Views.{whole}
+use Rattle.ds_words.specs.Views.{whole}
 use Rattle.ds_trace.specs.declared.processor.ProcessorCounts.{ProcessorCounts}
 use Rattle.ds_trace.specs.Counted.{HasCounted}
 use Rattle.ds_trace.specs.Counts.{Counted}

@@ -22,7 +22,7 @@ use Rattle.ds_refinement.proofs.RunSteps.{goes_alike, begins_goes}
 use Rattle.ds_station.specs.Headline.{held_text}
 use Rattle.ds_station.specs.Reads.{general_held}
 use Rattle.ds_station.proofs.Headlines.{owed_stands, time_stands, text_alike}
-use Rattle.ds_view.specs.declared.view.View.{View}
+use Rattle.ds_words.specs.declared.view.View.{View}
 use Rattle.ds_trace.specs.declared.start.Start.{Start}
 use Rattle.ds_trace.specs.Starts.{general_of, start_of, next_start}
 use Rattle.ds_trace.specs.Looks.{Looked}

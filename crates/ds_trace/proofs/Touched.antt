@@ -7,7 +7,7 @@ use Rattle.ds_isa.specs.Uses.{uses}
 use Rattle.ds_isa.specs.Instruction.{instruction_of}
 use Rattle.ds_listing.specs.declared.names.RegisterNames.{RegisterNames}
 use Rattle.ds_listing.specs.NamedTexts.{register_as}
-use Rattle.ds_listing.specs.Texts.{hex8}
+use Rattle.ds_text.specs.Digits.{hex8}
 use Rattle.ds_policy.specs.Grants.{PageState}
 use Rattle.ds_procs.specs.declared.call.Call.{Call}
 use Rattle.ds_procs.specs.declared.process.Standing.{Standing}
@@ -15,8 +15,8 @@ use Rattle.ds_procs.specs.Calls.{call_of}
 use Rattle.ds_pagemap.specs.Machine.{State, Process, no_process, process_of, with_process, first, touched, touched_process, touch_first}
 use Rattle.ds_refinement.specs.Held.{last_boundary}
 use Rattle.ds_station.specs.Reads.{fetched}
-use Rattle.ds_view.specs.declared.view.View.{View}
-use Rattle.ds_view.specs.Views.{shows_denials, shows_turn, shows_unit}
+use Rattle.ds_words.specs.declared.view.View.{View}
+use Rattle.ds_words.specs.Views.{shows_denials, shows_turn, shows_unit}
 use Rattle.ds_trace.specs.declared.lines.Told.{Told}
 use Rattle.ds_trace.specs.declared.start.Start.{Start}
 use Rattle.ds_trace.specs.declared.stores.Reach.{Reach}

@@ -1,7 +1,7 @@
 -- The lines of a unit, by what a station holds.
 use Rattle.std.proofs.Common.{◌≡◌, ◌∙◌, ℕ, List, ◌++◌, sym, ap, drop, Option, Some}
 use Rattle.ds_refinement.specs.Held.{Held}
-use Rattle.ds_view.specs.declared.view.View.{View}
+use Rattle.ds_words.specs.declared.view.View.{View}
 use Rattle.ds_trace.specs.declared.start.Start.{Start}
 use Rattle.ds_trace.specs.Looks.{Looked}
 use Rattle.ds_trace.specs.Lines.{unit_told}

@@ -1,6 +1,6 @@
 -- An account of a run in plain words: whether it ended, how each process stands and why, and what was denied by each rule.
 use Rattle.std.specs.Prelude.{codes, decimal, bytes_eq, ℕ, zero, suc, ◌+◌, ◌==◌, nat_lt, if◌then◌else◌, List, [], ◌∷◌, ◌++◌, length, Option, Some, None}
-use Rattle.ds_listing.specs.Texts.{hex8}
+use Rattle.ds_text.specs.Digits.{hex8}
 use Rattle.ds_procs.specs.declared.process.Standing.{Standing}
 use Rattle.ds_procs.specs.declared.process.Standing.TheVariants.{Parked}
 use Rattle.ds_pagemap.specs.Machine.{process_of}

@@ -10,7 +10,7 @@ use Rattle.ds_refinement.specs.Steps.{Stays}
 use Rattle.ds_kernel.specs.Ended.{Does}
 use Rattle.ds_station.specs.declared.fault.Fault.{Fault}
 use Rattle.ds_station.specs.declared.fault.Fault.TheVariants as fault
-use Rattle.ds_view.specs.declared.view.View.{View}
+use Rattle.ds_words.specs.declared.view.View.{View}
 use Rattle.ds_trace.specs.declared.progress.Progress.{Progress}
 use Rattle.ds_trace.specs.Shows.{half_held, progress_held}
 

@@ -1,11 +1,10 @@
 -- The lines of a boundary.
 use Rattle.std.specs.Prelude.{codes, decimal, ℕ, zero, suc, ◌+◌, ◌-◌, nat_le, if◌then◌else◌, List, [], ◌∷◌, ◌++◌, length, drop}
-use Rattle.ds_listing.specs.Texts.{hex2, hex8}
-use Rattle.ds_policy.specs.declared.command.Command.{Command}
-use Rattle.ds_policy.specs.declared.command.Command.TheVariants as command
+use Rattle.ds_text.specs.Digits.{hex2, hex8}
+use Rattle.ds_policy.specs.Words.{command_words}
 use Rattle.ds_policy.specs.declared.command.TimedCommand.{TimedCommand}
-use Rattle.ds_view.specs.declared.view.View.{View}
-use Rattle.ds_view.specs.Views.{shows_rest}
+use Rattle.ds_words.specs.declared.view.View.{View}
+use Rattle.ds_words.specs.Views.{shows_rest}
 use Rattle.ds_trace.specs.Looks.{Looked, Found}
 
 -- the first commands, as far as they are due at a time
@@ -17,18 +16,9 @@ due_by time (c ∷ rest) = if nat_le c.time time then c ∷ due_by time rest els
 abbrev pub place_text : ℕ → ℕ → List ℕ
 place_text p address = codes " " ++ decimal p ++ codes " " ++ hex8 address
 
--- what a command asks for
-abbrev pub words_of_command : Command → List ℕ
-words_of_command (command.Grant p address page right give) = codes "grant" ++ place_text p address
-words_of_command (command.Narrow p address) = codes "narrow" ++ place_text p address
-words_of_command (command.Revoke p address) = codes "revoke" ++ place_text p address
-words_of_command (command.Drop p address) = codes "drop" ++ place_text p address
-words_of_command (command.Resume p) = codes "resume " ++ decimal p
-words_of_command (command.Stop p) = codes "stop " ++ decimal p
-
 -- the line of a command that is carried out at a time
 abbrev pub command_line : ℕ → TimedCommand → List ℕ
-command_line time c = decimal time ++ codes " command " ++ decimal c.number ++ codes " " ++ words_of_command c.command ++ codes "\n"
+command_line time c = decimal time ++ codes " command " ++ decimal c.number ++ codes " " ++ command_words c.command ++ codes "\n"
 
 -- those of commands in their order
 abbrev pub commands_text : ℕ → List TimedCommand → List ℕ

@@ -1,6 +1,6 @@
 -- The words of a call.
 use Rattle.std.specs.Prelude.{ℕ, Bool, true, false, ◌&&◌, ◌==◌, if◌then◌else◌, codes, decimal, List, [], ◌++◌, Option, Some, None}
-use Rattle.ds_listing.specs.Texts.{hex2, hex8}
+use Rattle.ds_text.specs.Digits.{hex2, hex8}
 use Rattle.ds_procs.specs.declared.call.Call.{Call}
 use Rattle.ds_procs.specs.declared.call.Call.TheVariants as call
 

@@ -3,8 +3,8 @@ use Rattle.std.specs.Prelude.{codes, decimal, ℕ, ◌+◌, ◌-◌, Bool, true,
 use Rattle.ds_procs.specs.declared.process.Standing.{Standing}
 use Rattle.ds_procs.specs.declared.process.Standing.TheVariants.{Ready, Waiting, Parked, Ended}
 use Rattle.ds_pagemap.specs.Boundary.{is_first}
-use Rattle.ds_view.specs.declared.view.View.{View}
-use Rattle.ds_view.specs.Views.{shows_process, shows_switches}
+use Rattle.ds_words.specs.declared.view.View.{View}
+use Rattle.ds_words.specs.Views.{shows_process, shows_switches}
 use Rattle.ds_trace.specs.Looks.{Looked, Found}
 
 -- how a process stands

@@ -13,7 +13,7 @@ use Rattle.ds_kernel.specs.Ran.{HasRun}
 use Rattle.ds_station.specs.declared.fault.Fault.{Fault}
 use Rattle.ds_trace.specs.declared.processor.ProcessorCounts.{ProcessorCounts}
 use Rattle.ds_trace.specs.declared.window.WindowEnd.{WindowEnd}
-use Rattle.ds_view.specs.Views.{is_before}
+use Rattle.ds_words.specs.Views.{is_before}
 use Rattle.ds_trace.specs.Processors.{StepsTo, left_along, left_text, processor_after, total, window_text}
 
 -- a step of some kind was done

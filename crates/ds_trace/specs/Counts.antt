@@ -2,8 +2,8 @@
 use Rattle.std.specs.Prelude.{ℕ, ◌+◌, ◌-◌, ◌^◌, min, Bool, false, ◌==◌, ◌&&◌, if◌then◌else◌, List, [], ◌∷◌, ◌++◌, drop, slice_index, slice_set, is_some, Option, Some, None}
 use Rattle.ds_procs.specs.declared.call.Call.{Call}
 use Rattle.ds_procs.specs.declared.call.Call.TheVariants as call
-use Rattle.ds_view.specs.declared.view.View.{View}
-use Rattle.ds_view.specs.Views.{has_lines, shows_turn}
+use Rattle.ds_words.specs.declared.view.View.{View}
+use Rattle.ds_words.specs.Views.{has_lines, shows_turn}
 use Rattle.ds_trace.specs.declared.counts.Lossy.{Lossy}
 use Rattle.ds_trace.specs.declared.start.Start.{Start}
 use Rattle.ds_trace.specs.Looks.{Looked, Found}

@@ -5,8 +5,8 @@ use Rattle.ds_policy.specs.declared.grant.Entry.{Entry}
 use Rattle.ds_policy.specs.declared.grant.Grant.{Grant}
 use Rattle.ds_policy.specs.declared.grant.Right.TheVariants.{Read, Write}
 use Rattle.ds_policy.specs.Grants.{forbidden_by}
-use Rattle.ds_listing.specs.Texts.{hex4, hex8}
-use Rattle.ds_view.specs.Views.{whole}
+use Rattle.ds_text.specs.Digits.{hex4, hex8}
+use Rattle.ds_words.specs.Views.{whole}
 use Rattle.ds_trace.specs.Entries.{changed_text, tables_from}
 
 -- the data page, by a rule of the policy

@@ -4,8 +4,8 @@ use Rattle.ds_log.specs.Text as log
 use Rattle.ds_policy.specs.Pages.{Table}
 use Rattle.ds_pagemap.specs.Machine.{State, first}
 use Rattle.ds_refinement.specs.Held.{last_boundary}
-use Rattle.ds_view.specs.declared.view.View.{View}
-use Rattle.ds_view.specs.Views.{shows_entries, shows_turn}
+use Rattle.ds_words.specs.declared.view.View.{View}
+use Rattle.ds_words.specs.Views.{shows_entries, shows_turn}
 use Rattle.ds_trace.specs.declared.start.Start.{Start}
 use Rattle.ds_trace.specs.Starts.{general_of, next_start}
 use Rattle.ds_trace.specs.Looks.{Looked, Found}

@@ -5,7 +5,7 @@ use Rattle.ds_refinement.specs.Held.{Held}
 use Rattle.ds_station.specs.Headline.{held_text}
 use Rattle.ds_station.specs.declared.fault.Fault.{Fault}
 use Rattle.ds_station.specs.declared.fault.Fault.TheVariants as fault
-use Rattle.ds_view.specs.declared.view.View.{View}
+use Rattle.ds_words.specs.declared.view.View.{View}
 use Rattle.ds_trace.specs.Counts.{Counted}
 use Rattle.ds_trace.specs.Shows.{end_held}
 

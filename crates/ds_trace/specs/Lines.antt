@@ -6,9 +6,9 @@ use Rattle.ds_isa.specs.Instruction.{instruction_of}
 use Rattle.ds_listing.specs.declared.names.RegisterNames.{RegisterNames}
 use Rattle.ds_listing.specs.NamedTexts.{register_as, text_as}
 use Rattle.ds_listing.specs.Pages.{place_at, plain_pages}
-use Rattle.ds_listing.specs.Texts.{hex8}
-use Rattle.ds_view.specs.declared.view.View.{View}
-use Rattle.ds_view.specs.Views.{shows_denials, shows_unit}
+use Rattle.ds_text.specs.Digits.{hex8}
+use Rattle.ds_words.specs.declared.view.View.{View}
+use Rattle.ds_words.specs.Views.{shows_denials, shows_unit}
 use Rattle.ds_trace.specs.declared.lines.Told.{Told}
 use Rattle.ds_trace.specs.declared.start.Start.{Start}
 use Rattle.ds_trace.specs.Starts.{is_call}

@@ -1,6 +1,6 @@
 -- The lines of memory: words of a process, as its entries let it read them.
 use Rattle.std.specs.Prelude.{codes, decimal, ℕ, zero, suc, ◌+◌, ◌*◌, ◌%◌, ◌==◌, ◌||◌, if◌then◌else◌, List, [], ◌++◌, Option, Some, None}
-use Rattle.ds_listing.specs.Texts.{hex8}
+use Rattle.ds_text.specs.Digits.{hex8}
 use Rattle.ds_policy.specs.Grants.{PageState}
 use Rattle.ds_station.specs.Reads.{word_read}
 

@@ -1,6 +1,6 @@
 -- The line that tells of a process that has not ended, where all have to.
 use Rattle.std.specs.Prelude.{codes, decimal, ℕ, List, [], ◌++◌}
-use Rattle.ds_listing.specs.Texts.{hex8}
+use Rattle.ds_text.specs.Digits.{hex8}
 use Rattle.ds_procs.specs.declared.process.Standing.{Standing}
 use Rattle.ds_procs.specs.declared.process.Standing.TheVariants.{Ready, Waiting, Parked, Ended}
 use Rattle.ds_refinement.specs.Held.{Held}

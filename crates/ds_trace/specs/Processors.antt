@@ -1,7 +1,7 @@
 -- What the processor did in a run, and what is told of it. It depends on Random.
 use Rattle.std.specs.Prelude.{codes, decimal, ◌≡◌, ◌⊎◌, ⊤, ℕ, ◌+◌, ◌*◌, ◌%◌, ◌^◌, Bool, true, false, if◌then◌else◌, List, [], ◌∷◌, ◌++◌, Option, Some, None, min, nat_lt, is_some, ◌||◌, ◌&&◌}
 use Rattle.std.specs.List.{All}
-use Rattle.ds_listing.specs.Texts.{hex8}
+use Rattle.ds_text.specs.Digits.{hex8}
 use Rattle.ds_tlb.specs.declared.entry.Entry.{Entry}
 use Rattle.ds_pagemap.specs.Machine.{State}
 use Rattle.ds_pagemap.specs.Run.{goes_on, Reaches}
@@ -11,8 +11,8 @@ use Rattle.ds_refinement.specs.Real.{RealPath, Through}
 use Rattle.ds_station.specs.declared.stage.Stage.{Stage}
 use Rattle.ds_station.specs.declared.stage.Stage.TheVariants.{Rest, Instruction, Refill, Service, DoubleMiss}
 use Rattle.ds_station.specs.Reads.{stage_of}
-use Rattle.ds_view.specs.declared.view.View.{View}
-use Rattle.ds_view.specs.Views.{has_lines, is_before}
+use Rattle.ds_words.specs.declared.view.View.{View}
+use Rattle.ds_words.specs.Views.{has_lines, is_before}
 use Rattle.ds_trace.specs.declared.processor.ProcessorCounts.{ProcessorCounts}
 
 -- Counts.

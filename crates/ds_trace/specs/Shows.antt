@@ -11,7 +11,7 @@ use Rattle.ds_station.specs.declared.fault.Fault.{Fault}
 use Rattle.ds_station.specs.declared.fault.Fault.TheVariants as fault
 use Rattle.ds_station.specs.Runs.{IsCut}
 use Rattle.ds_station.specs.Reads.{address_held, general_held, memory_held}
-use Rattle.ds_view.specs.declared.view.View.{View}
+use Rattle.ds_words.specs.declared.view.View.{View}
 use Rattle.ds_trace.specs.declared.start.Start.{Start}
 use Rattle.ds_trace.specs.Starts.{start_at}
 use Rattle.ds_trace.specs.Looks.{Looked, Found}

@@ -1,7 +1,7 @@
 -- The word that a store leaves.
 use Rattle.std.specs.Prelude.{ℕ, ◌+◌, ◌*◌, ◌/◌, ◌==◌, ◌||◌, nat_lt, Bool, if◌then◌else◌, codes, List, [], ◌++◌, slice_index, Option, Some, None}
 use Rattle.ds_word.specs.Word.{word, sign_extended}
-use Rattle.ds_listing.specs.Texts.{hex8}
+use Rattle.ds_text.specs.Digits.{hex8}
 use Rattle.ds_isa.specs.declared.instr.Instr.{Instr}
 use Rattle.ds_isa.specs.declared.instr.Instr.TheVariants as instr
 use Rattle.ds_policy.specs.Grants.{PageState}

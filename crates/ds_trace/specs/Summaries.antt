@@ -1,7 +1,7 @@
 -- What a trace tells of the whole run before how each process stands.
 use Rattle.std.specs.Prelude.{codes, decimal, ℕ, ◌+◌, ◌==◌, if◌then◌else◌, List, [], ◌∷◌, ◌++◌, length}
-use Rattle.ds_view.specs.declared.view.View.{View}
-use Rattle.ds_view.specs.Views.{has_lines}
+use Rattle.ds_words.specs.declared.view.View.{View}
+use Rattle.ds_words.specs.Views.{has_lines}
 use Rattle.ds_trace.specs.Counts.{Counted}
 use Rattle.ds_trace.specs.Logs.{lines_of, rules_of, rules_text}
 

@@ -15,10 +15,10 @@ use Rattle.ds_refinement.specs.Stands.{Stands}
 use Rattle.ds_station.specs.Headline.{held_text}
 use Rattle.ds_station.specs.declared.fault.Fault.{Fault}
 use Rattle.ds_station.specs.declared.fault.Fault.TheVariants as fault
-use Rattle.ds_view.specs.declared.view.View.{View}
-use Rattle.ds_view.specs.declared.view.Only.TheVariants.{Calls}
-use Rattle.ds_view.specs.Sets.{no_processes}
-use Rattle.ds_view.specs.Views.{whole}
+use Rattle.ds_words.specs.declared.view.View.{View}
+use Rattle.ds_words.specs.declared.view.Only.TheVariants.{Calls}
+use Rattle.ds_words.specs.Sets.{no_processes}
+use Rattle.ds_words.specs.Views.{whole}
 use Rattle.ds_trace.specs.Accounts.{came_text, denied_by}
 use Rattle.ds_trace.specs.Counts.{Counted}
 use Rattle.ds_trace.specs.Logs.{lines_of}

@@ -12,7 +12,7 @@ use Rattle.ds_refinement.specs.Stands.{Stands}
 use Rattle.ds_station.specs.Headline.{Begins, BeginsWith, Loaded, Refuses}
 use Rattle.ds_station.specs.declared.fault.Fault.{Fault}
 use Rattle.ds_station.specs.declared.fault.Fault.TheVariants as fault
-use Rattle.ds_view.specs.declared.view.View.{View}
+use Rattle.ds_words.specs.declared.view.View.{View}
 use Rattle.ds_trace.specs.Counts.{Counted, none_counted}
 use Rattle.ds_trace.specs.Halves.{half_counts, half_text}
 use Rattle.ds_trace.specs.Ends.{end_text}

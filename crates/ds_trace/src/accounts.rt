@@ -3,11 +3,11 @@ ghost use Rattle.std.specs.Prelude.{◌≡◌, ◌++◌, IfOk, OnOk, codes, deci
 ghost use Rattle.std.specs.String.{string_bytes};
 ghost use Rattle.ds_trace.specs.Accounts.{account_text, all_stand, came_text, came_words, denied_words, letter_words, number_words, rule_words, stands_text, why_by, why_text};
 
-use crate::digits::push_decimal;
 use crate::ends::push_head;
 use crate::logs::{fourth_word, last_of, lines_of, push_rules, rules_of, sixth_word};
 use ds_procs::Standing;
 use ds_station::{Station, Unended};
+use ds_text::string::push_decimal;
 use ds_tlb::Lookaside;
 use std::alloc::{AllocError, Global};
 

@@ -10,7 +10,7 @@ use ds_policy::TimedCommand;
 use ds_procs::Standing;
 use ds_station::Station;
 use ds_tlb::Lookaside;
-use ds_view::View;
+use ds_words::View;
 use std::alloc::{AllocError, Global};
 use std::marker::Model;
 

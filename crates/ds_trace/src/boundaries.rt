@@ -1,12 +1,13 @@
 //! The lines of a boundary.
 ghost use Rattle.std.specs.Prelude.{◌≡◌, ◌+◌, ◌-◌, ◌++◌, OnOk, drop, length};
 ghost use Rattle.std.specs.String.{string_bytes};
-ghost use Rattle.ds_trace.specs.Boundaries.{command_line, commands_text, count_keys, key_line, keys_text, line_text, lost_text, place_text, taken_by, words_of_command};
+ghost use Rattle.ds_policy.specs.Words.{after_blank, command_words};
+ghost use Rattle.ds_trace.specs.Boundaries.{command_line, commands_text, count_keys, key_line, keys_text, line_text, lost_text, place_text, taken_by};
 
 use crate::before::LINES;
-use crate::digits::{push_byte, push_decimal, push_hex};
 use ds_policy::{Command, TimedCommand};
 use ds_station::Station;
+use ds_text::string::{push_byte, push_decimal, push_hex};
 use ds_tlb::Lookaside;
 use std::alloc::AllocError;
 
@@ -24,37 +25,25 @@ pub(crate) fn push_place(line: &mut String, process: u32, address: u32) -> Resul
 /// Adds what a command asks for.
 fn push_words(line: &mut String, command: Command) -> Result<(), AllocError>
     ensures { OnOk result
-        (string_bytes line.new ≡ string_bytes line.old ++ words_of_command command) }
+        (string_bytes line.new ≡ string_bytes line.old ++ command_words command) }
 {
-    match command {
-        Command::Grant {
-            process,
-            address,
-            ..
-        } => {
-            line.push_str("grant")?;
-            push_place(line, process, address)
+    line.push_str(command.verb())?;
+    line.push_str(" ")?;
+    push_decimal(line, u64::from(command.process()))?;
+    push_address(line, command.address())
+}
+
+/// Adds an address after a blank, where there is one.
+fn push_address(line: &mut String, address: Option<u32>) -> Result<(), AllocError>
+    ensures { OnOk result
+        (string_bytes line.new ≡ string_bytes line.old ++ after_blank address) }
+{
+    match address {
+        Some(address) => {
+            line.push_str(" ")?;
+            push_hex(line, address)
         }
-        Command::Narrow { process, address } => {
-            line.push_str("narrow")?;
-            push_place(line, process, address)
-        }
-        Command::Revoke { process, address } => {
-            line.push_str("revoke")?;
-            push_place(line, process, address)
-        }
-        Command::Drop { process, address } => {
-            line.push_str("drop")?;
-            push_place(line, process, address)
-        }
-        Command::Resume { process } => {
-            line.push_str("resume ")?;
-            push_decimal(line, u64::from(process))
-        }
-        Command::Stop { process } => {
-            line.push_str("stop ")?;
-            push_decimal(line, u64::from(process))
-        }
+        None => Ok(()),
     }
 }
 

@@ -3,8 +3,8 @@ ghost use Rattle.std.specs.Prelude.{◌≡◌, ◌++◌, OnOk};
 ghost use Rattle.std.specs.String.{string_bytes};
 ghost use Rattle.ds_trace.specs.Calls.{answer_text, call_text, call_told, is_unknown, mode_text, refusal_text, unknown_text, words_of_call};
 
-use crate::digits::{push_byte, push_decimal, push_hex};
 use ds_procs::Call;
+use ds_text::string::{push_byte, push_decimal, push_hex};
 use std::alloc::AllocError;
 
 /// How a page is given: for reading, for writing, as a copy, or by a number that means nothing.

@@ -5,13 +5,13 @@ ghost use Rattle.ds_pagemap.specs.Boundary.{is_first};
 ghost use Rattle.ds_pagemap.specs.Machine.{first};
 ghost use Rattle.ds_trace.specs.Changes.{is_ready, is_shown, runner_text, same_first, same_standing, standing_line, standing_text, standings_text, switch_text, way_text};
 ghost use Rattle.ds_trace.specs.Shows.{found_held};
-ghost use Rattle.ds_view.specs.Views.{shows_process};
+ghost use Rattle.ds_words.specs.Views.{shows_process};
 
-use crate::digits::push_decimal;
 use ds_procs::Standing;
 use ds_station::Station;
+use ds_text::string::push_decimal;
 use ds_tlb::Lookaside;
-use ds_view::View;
+use ds_words::View;
 use std::alloc::AllocError;
 
 /// Adds how a process stands.

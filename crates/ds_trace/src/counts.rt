@@ -14,7 +14,7 @@ use crate::stores::held_in;
 use ds_procs::Call;
 use ds_station::Station;
 use ds_tlb::Lookaside;
-use ds_view::View;
+use ds_words::View;
 use std::alloc::{AllocError, Global};
 use std::marker::Model;
 

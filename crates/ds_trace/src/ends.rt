@@ -1,22 +1,22 @@
 //! The end of a trace: what is told of the whole run, and how each process stands, with its registers.
 ghost use Rattle.std.specs.Prelude.{◌≡◌, ◌++◌, OnOk, codes, decimal, length, map, option_map};
 ghost use Rattle.std.specs.String.{string_bytes};
-ghost use Rattle.ds_listing.specs.Texts.{hex8};
+ghost use Rattle.ds_text.specs.Digits.{hex8};
 ghost use Rattle.ds_trace.specs.Changes.{standing_text};
 ghost use Rattle.ds_trace.specs.Ends.{left_text, line_by, parked_text, process_text, registers_text};
 ghost use Rattle.ds_trace.specs.Shows.{end_held, processes_held};
 
 use crate::changes::push_standing;
 use crate::counts::Counts;
-use crate::digits::{push_decimal, push_hex, push_newline};
-use crate::lines::is_hidden;
+use crate::lines::{is_hidden, push_newline};
 use crate::logs::{last_of, lines_of};
 use crate::summaries::push_summary;
 use ds_listing::{RegisterNames, push_register};
 use ds_procs::Standing;
 use ds_station::Station;
+use ds_text::string::{push_decimal, push_hex};
 use ds_tlb::Lookaside;
-use ds_view::View;
+use ds_words::View;
 use std::alloc::{AllocError, Global};
 
 /// Adds a register of a process at the end: none that a touch may change, and none that holds 0.

@@ -7,11 +7,12 @@ ghost use Rattle.ds_trace.specs.Entries.{changed_text, entry_line, give_text, gi
 
 use crate::boundaries::push_place;
 use crate::changes::same_first;
-use crate::digits::{push_decimal, push_newline};
+use crate::lines::push_newline;
 use ds_policy::{Entry, EntryPlace, Grant, Right};
 use ds_station::Station;
+use ds_text::string::push_decimal;
 use ds_tlb::Lookaside;
-use ds_view::View;
+use ds_words::View;
 use std::alloc::{AllocError, Global};
 use std::marker::Model;
 

@@ -13,7 +13,7 @@ use ds_log::Output;
 use ds_policy::Policy;
 use ds_station::{Fault, Station, prepare};
 use ds_tlb::Indexed;
-use ds_view::View;
+use ds_words::View;
 use std::alloc::Global;
 
 /// As `run_files` of `ds_station`, with the trace of the run before its text: what each unit was,

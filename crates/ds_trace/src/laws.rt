@@ -4,7 +4,7 @@ ghost use Rattle.ds_pagemap.specs.Machine.{State, process_of, touched};
 ghost use Rattle.ds_pagemap.specs.Boundary.{boundary};
 ghost use Rattle.ds_trace.specs.Counts.{Counted};
 ghost use Rattle.ds_trace.specs.Ends.{end_text};
-ghost use Rattle.ds_view.specs.declared.view.View.{View};
+ghost use Rattle.ds_words.specs.declared.view.View.{View};
 ghost use Rattle.ds_trace.specs.Halves.{half_counts, half_text};
 
 /// A touch of the process that runs, before a half turn and after it, changes no line and no count,

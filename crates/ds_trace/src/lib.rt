@@ -7,7 +7,6 @@ mod boundaries;
 mod calls;
 mod changes;
 mod counts;
-mod digits;
 mod ends;
 mod entries;
 mod files;

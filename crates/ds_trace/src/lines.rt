@@ -9,16 +9,16 @@ ghost use Rattle.ds_trace.specs.Shows.{found_held};
 ghost use Rattle.ds_trace.specs.Stores.{reach_of, stored_at, stored_text};
 
 use crate::calls::{push_answer, push_told_call};
-use crate::digits::{push_decimal, push_hex, push_newline};
 use crate::start::{Start, is_call};
 use crate::stores::{held_in, is_lost, push_stored, reach_of, stored_at};
 use ds_isa::{decode, writes};
 use ds_listing::{RegisterNames, push_address_place, push_register as push_name, push_word_as};
 use ds_procs::Call;
 use ds_station::Station;
+use ds_text::string::{push_decimal, push_hex};
 use ds_tlb::Lookaside;
-use ds_view::View;
 use ds_word::wrapping_sum;
+use ds_words::View;
 use std::alloc::AllocError;
 
 /// Whether a register is never shown: 0, and those which a touch may change.
@@ -314,4 +314,11 @@ pub(crate) fn was_done(start: &Start, logged: &[u8]) -> bool
     ensures { result ≡ was_done start.now logged.now }
 {
     logged.is_empty() || start.call.is_some()
+}
+
+/// Ends a line.
+pub(crate) fn push_newline(text: &mut String) -> Result<(), AllocError>
+    ensures { OnOk result (string_bytes text.new ≡ string_bytes text.old ++ codes "\n") }
+{
+    text.push_str("\n")
 }

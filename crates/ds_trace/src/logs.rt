@@ -3,6 +3,7 @@ ghost use Rattle.std.specs.Prelude.{◌≡◌, ◌≤◌, ◌++◌, ◌∷◌, [
 ghost use Rattle.std.specs.List.{list_any};
 ghost use Rattle.ds_trace.specs.Logs.{after_word, first_word, fourth_word, is_among, last_of, lines_of, rule_text, rules_of, rules_text, second_word, sixth_word, times_among};
 
+use ds_text::sheet::push_decimal;
 use itoa::Buffer;
 use std::alloc::{AllocError, Global};
 
@@ -127,7 +128,7 @@ fn push_met(text: &mut Vec<u8>, rule: &[u8], rest: &[&[u8]]) -> Result<(), Alloc
     text.extend_from_slice(rule)?;
     text.extend_from_slice(b" ")?;
     let times = times_among(rule, rest) as u64 + 1;
-    text.extend_from_slice(Buffer::new().format(times).as_bytes())?;
+    push_decimal(text, times)?;
     text.extend_from_slice(b"\n")
 }
 

@@ -7,9 +7,9 @@ ghost use Rattle.ds_trace.specs.Losses.{losses_text, lost_by, lost_line, lost_th
 
 use crate::before::LINES;
 use crate::counts::{Lossy, plus};
-use crate::digits::push_decimal;
 use crate::summaries::push_total;
 use ds_policy::{Character, Events, Policy};
+use ds_text::string::push_decimal;
 use std::alloc::{AllocError, Global};
 
 /// What was lost on a console line.

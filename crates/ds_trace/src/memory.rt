@@ -10,9 +10,9 @@ ghost use Rattle.ds_station.specs.Reads.{memory_held};
 ghost use Rattle.ds_trace.specs.Handed.{IsLate};
 ghost use Rattle.ds_trace.specs.Memory.{back_text, front_text, memory_text, piece_text, pieces_text, word_text};
 
-use crate::digits::{push_decimal, push_hex};
 use ds_log::{Output, send};
 use ds_station::{Fault, Station};
+use ds_text::string::{push_decimal, push_hex};
 use ds_tlb::Lookaside;
 use std::alloc::{AllocError, Global};
 

@@ -3,8 +3,9 @@ ghost use Rattle.std.specs.Prelude.{◌≡◌, ◌<◌, ◌^◌, ◌++◌, OnOk,
 ghost use Rattle.std.specs.String.{string_bytes};
 ghost use Rattle.ds_trace.specs.Processors.{entries_text, entry_text, named_text, none_processed, processor_line, processor_text, right_text, stage_after, total};
 
-use crate::digits::{push_decimal, push_hex, push_newline};
+use crate::lines::push_newline;
 use ds_station::{Stage, Station};
+use ds_text::string::{push_decimal, push_hex};
 use ds_tlb::{Entry, Lookaside};
 use std::alloc::AllocError;
 

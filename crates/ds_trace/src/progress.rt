@@ -7,7 +7,7 @@ use crate::before::Before;
 use crate::counts::Counts;
 use ds_station::Station;
 use ds_tlb::Lookaside;
-use ds_view::View;
+use ds_words::View;
 use std::alloc::{AllocError, Global};
 
 /// What is looked at before the next half turn, and what was counted so far.

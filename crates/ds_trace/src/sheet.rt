@@ -22,7 +22,7 @@ use crate::window::WindowEnd;
 use ds_log::{Output, WriteFailed, send};
 use ds_station::Station;
 use ds_tlb::Lookaside;
-use ds_view::View;
+use ds_words::View;
 use std::alloc::{AllocError, Global};
 
 /// What is to be written, and room for a line.

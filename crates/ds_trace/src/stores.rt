@@ -4,9 +4,9 @@ ghost use Rattle.std.specs.String.{string_bytes};
 ghost use Rattle.ds_station.specs.Reads.{memory_held};
 ghost use Rattle.ds_trace.specs.Stores.{is_lost, reach_of, stored_at, stored_text, word_seen, word_text};
 
-use crate::digits::push_hex;
 use ds_isa::Instr;
 use ds_station::Station;
+use ds_text::string::push_hex;
 use ds_tlb::Lookaside;
 use ds_word::{sign16, wrapping_sum};
 use std::alloc::AllocError;

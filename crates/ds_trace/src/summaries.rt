@@ -5,9 +5,9 @@ ghost use Rattle.ds_trace.specs.Logs.{lines_of, rules_of, rules_text};
 ghost use Rattle.ds_trace.specs.Summaries.{call_line, call_name, calls_text, counts_text, events_text, halves_text, summary_text, time_text, totals_text};
 
 use crate::counts::{CALLS, Counts};
-use crate::digits::push_decimal;
 use crate::logs::{lines_of, push_rules, rules_of};
-use ds_view::View;
+use ds_text::string::push_decimal;
+use ds_words::View;
 use std::alloc::{AllocError, Global};
 
 /// The name of a call by its number.

@@ -10,7 +10,7 @@ ghost use Rattle.ds_pagemap.specs.Machine.{State};
 ghost use Rattle.ds_policy.specs.InputText.{input_of};
 ghost use Rattle.ds_policy.specs.PolicyFacts.{IsGoodPolicy};
 ghost use Rattle.ds_policy.specs.Value.{InputValue};
-ghost use Rattle.ds_quiet.specs.Quiet.{IsQuiet};
+ghost use Rattle.ds_promise.specs.Quiet.{IsQuiet};
 ghost use Rattle.ds_refinement.specs.Stands.{IsSound};
 ghost use Rattle.ds_station.specs.Alone.{WritesAlone};
 ghost use Rattle.ds_station.specs.Faults.{is_unwritten};
@@ -21,7 +21,6 @@ ghost use Rattle.ds_trace.specs.Summed.{CountsAll, SumsUp, SumsUpShort, TellsOf,
 
 use crate::accounts::push_end_of_run;
 use crate::counts::Counts;
-use crate::digits::push_decimal;
 use crate::logs::{lines_of, push_rules, rules_of};
 use crate::losses::push_losses;
 use crate::processor::ProcessorCounts;
@@ -33,8 +32,9 @@ use ds_listing::RegisterNames;
 use ds_log::Output;
 use ds_policy::Policy;
 use ds_station::{Fault, Station, deliver, prepare};
+use ds_text::string::push_decimal;
 use ds_tlb::{Indexed, Lookaside};
-use ds_view::{Only, Processes, View};
+use ds_words::{Only, Processes, View};
 use std::alloc::{AllocError, Global};
 use std::io::sink;
 

@@ -14,7 +14,7 @@ ghost use Rattle.ds_trace.specs.Handed.{IsFinished, IsHandedOn, IsLate};
 ghost use Rattle.ds_trace.specs.Processors.{none_processed, told_from, total, window_end};
 ghost use Rattle.ds_trace.specs.Summed.{TracesSummed};
 ghost use Rattle.ds_trace.specs.Shows.{IsCutIf, TellsAll, TracesLines, TracesPart, TracesShort, end_held, half_held, progress_held};
-ghost use Rattle.ds_view.specs.Views.{has_lines};
+ghost use Rattle.ds_words.specs.Views.{has_lines};
 
 use crate::before::Before;
 use crate::counts::Counts;
@@ -27,7 +27,7 @@ use ds_log::Output;
 use ds_policy::Policy;
 use ds_station::{Fault, Station, Step, deliver};
 use ds_tlb::Lookaside;
-use ds_view::View;
+use ds_words::View;
 use std::alloc::{AllocError, Global};
 
 /// So many bytes are handed to the writer at once, or a few more.

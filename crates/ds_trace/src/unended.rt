@@ -4,12 +4,12 @@ ghost use Rattle.std.specs.String.{string_bytes};
 ghost use Rattle.ds_trace.specs.MustEnd.{ticks_words, unended_line, unended_words, where_text, which_text};
 
 use crate::accounts::push_parked_why;
-use crate::digits::push_hex;
 use crate::logs::lines_of;
 use ds_procs::Standing;
 use ds_station::{Station, Unended};
+use ds_text::sheet::push_decimal;
+use ds_text::string::push_hex;
 use ds_tlb::Lookaside;
-use itoa::Buffer;
 use std::alloc::{AllocError, Global};
 
 /// How a process stands, before the address where it goes on.
@@ -39,7 +39,7 @@ fn push_which(text: &mut Vec<u8>, process: u32) -> Result<(), AllocError>
     ensures { OnOk result (text.new.items ≡ text.old.items ++ which_text process) }
 {
     text.extend_from_slice(b"dsmon: process ")?;
-    text.extend_from_slice(Buffer::new().format(process).as_bytes())?;
+    push_decimal(text, u64::from(process))?;
     text.extend_from_slice(b" has not ended: ")
 }
 

@@ -1,15 +1,15 @@
 //! Where the window of a view ends, and what the buffer holds there.
 ghost use Rattle.std.specs.Prelude.{◌≡◌, ◌++◌, [], OnOk};
 ghost use Rattle.std.specs.String.{string_bytes};
-ghost use Rattle.ds_view.specs.Views.{is_before};
+ghost use Rattle.ds_words.specs.Views.{is_before};
 ghost use Rattle.ds_trace.specs.Counted.{WatchesAt};
 ghost use Rattle.ds_trace.specs.Processors.{left_text, window_end};
 
-use crate::digits::push_decimal;
 use crate::processor::{push_cause, push_entries};
 use ds_station::Station;
+use ds_text::string::push_decimal;
 use ds_tlb::Lookaside;
-use ds_view::View;
+use ds_words::View;
 use std::alloc::{AllocError, Global};
 
 /// The end of a window, and what is told once the run has come there.

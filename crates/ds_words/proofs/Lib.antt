@@ -4,3 +4,4 @@ mod Requests
 mod WindowTexts
 mod SpanTexts
 pub mod WordLemmas
+mod Among

@@ -9,8 +9,8 @@ use Rattle.clap.specs.Words.{StepsValues, Text, many_of, matched_of, rows_of, ty
 use Rattle.clap.specs.declared.parser.matches.Found.{Found}
 use Rattle.clap.specs.declared.parser.matches.ValuesRef.{ValuesRef}
 use Rattle.clap.proofs.WalkLemmas.{typed_values-rows}
-use Rattle.ds_view.specs.declared.processes.Processes.{Processes}
-use Rattle.ds_view.specs.Sets.{no_processes, with_process}
+use Rattle.ds_words.specs.declared.processes.Processes.{Processes}
+use Rattle.ds_words.specs.Sets.{no_processes, with_process}
 use Rattle.ds_words.specs.Words.{AreNumbers, IsNumber, NamesProcesses, WriteProcesses}
 
 -- of all texts those that are no longer left write the numbers of these processes

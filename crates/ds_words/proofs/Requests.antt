@@ -9,13 +9,13 @@ use Rattle.clap.specs.Words.{Text, first_of, first_value, one_of, one_text, rows
 use Rattle.std.proofs.lemmas.Bool.{true≢false}
 use Rattle.clap.proofs.WalkLemmas.{first_value-rows, one_text-rows}
 use Rattle.clap.specs.declared.parser.matches.Found.{Found}
-use Rattle.ds_view.specs.declared.view.Only.{Only}
+use Rattle.ds_words.specs.declared.view.Only.{Only}
 use Rattle.ds_words.specs.declared.words.BareRequest.{BareRequest}
 use Rattle.ds_words.specs.declared.words.TraceRequest.{TraceRequest}
 use Rattle.ds_words.specs.declared.words.Untaken.{Untaken}
 use Rattle.ds_words.specs.declared.words.Wish.{Wish}
 use Rattle.ds_words.specs.declared.words.Wish.TheVariants.{Bare, Trace}
-use Rattle.ds_bare_view.specs.declared.view.BareOnly.{BareOnly}
+use Rattle.ds_words.specs.declared.bare_view.BareOnly.{BareOnly}
 use Rattle.ds_words.specs.Words.{IsGiven, IsNumber, bare_kind_word, kind_word}
 
 -- a word that was found is that of the rows

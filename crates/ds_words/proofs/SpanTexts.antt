@@ -4,10 +4,9 @@ use Rattle.std.specs.List.{All, AllZip}
 use Rattle.std.specs.Prelude.{IfSome, None, Option, Some}
 use Rattle.clap.specs.Words.{Text, all_of, rows_of}
 use Rattle.clap.specs.declared.parser.matches.Found.{Found}
-use Rattle.ds_bare_view.specs.declared.spans.Span.{Span}
-use Rattle.ds_bare_view.specs.declared.spans.Spans.{Spans}
-use Rattle.ds_bare_view.specs.Spans.{spans_in}
-use Rattle.ds_words.specs.Spans.{IsSpan, WriteSpans, WritesSpan}
+use Rattle.ds_words.specs.declared.spans.Span.{Span}
+use Rattle.ds_words.specs.declared.spans.Spans.{Spans}
+use Rattle.ds_words.specs.Spans.{IsSpan, spans_in, WriteSpans, WritesSpan}
 use Rattle.ds_words.specs.Words.{NamesSpans}
 
 -- each span that is written may be

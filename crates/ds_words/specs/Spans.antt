@@ -1,9 +1,14 @@
 -- Words of memory that are wanted at the end of a run on the bare machine, and the texts that write them.
-use Rattle.std.specs.Prelude.{◌≡◌, ◌<◌, ◌≤◌, ◌+◌, ◌*◌, ◌%◌, ◌^◌, ℕ, List, Option, Some, length, option_and_then, option_map}
+use Rattle.std.specs.Prelude.{◌≡◌, ◌<◌, ◌≤◌, ◌+◌, ◌*◌, ◌%◌, ◌^◌, ℕ, List, Option, Some, length, option_and_then, option_map, take}
 use Rattle.std.specs.List.{AllZip, after_first, before_first}
 use Rattle.clap.specs.Words.{Text}
-use Rattle.ds_bare_view.specs.declared.spans.Span.{Span}
+use Rattle.ds_words.specs.declared.spans.Span.{Span}
+use Rattle.ds_words.specs.declared.spans.Spans.{Spans}
 use Rattle.ds_words.specs.Windows.{address_of, digits_of, is_colon}
+
+-- the spans that are kept
+abbrev pub spans_in : Spans → List Span
+spans_in s = take s.count s.all
 
 -- there may be such a span: some whole words, of which the last ends with memory or before
 pub record IsSpan (s : Span) : Type 0 where

@@ -6,19 +6,18 @@ use Rattle.clap.specs.Words.{App, Row, Rule, Text, all_of, fault_of, first_of, m
 use Rattle.ds_words.specs.declared.words.BareRequest.{BareRequest}
 use Rattle.ds_words.specs.declared.words.CheckRequest.{CheckRequest}
 use Rattle.ds_words.specs.declared.words.ListRequest.{ListRequest}
-use Rattle.ds_view.specs.declared.view.Only.{Only}
-use Rattle.ds_view.specs.declared.view.Only.TheVariants.{End, Calls, Denials, Switches, Units}
+use Rattle.ds_words.specs.declared.view.Only.{Only}
+use Rattle.ds_words.specs.declared.view.Only.TheVariants.{End, Calls, Denials, Switches, Units}
 use Rattle.ds_listing.specs.declared.names.RegisterNames.{RegisterNames}
 use Rattle.ds_listing.specs.declared.names.RegisterNames.TheVariants.{Common, Numbers}
-use Rattle.ds_view.specs.declared.view.View.{View}
-use Rattle.ds_view.specs.declared.processes.Processes.{Processes}
-use Rattle.ds_view.specs.Sets.{processes_of}
-use Rattle.ds_bare_view.specs.declared.spans.Span.{Span}
-use Rattle.ds_bare_view.specs.declared.view.BareOnly.{BareOnly}
-use Rattle.ds_bare_view.specs.declared.view.BareOnly.TheVariants as bare_only
-use Rattle.ds_bare_view.specs.declared.view.BareView.{BareView}
-use Rattle.ds_bare_view.specs.Spans.{spans_in}
-use Rattle.ds_words.specs.Spans.{IsSpan, WriteSpans}
+use Rattle.ds_words.specs.declared.view.View.{View}
+use Rattle.ds_words.specs.declared.processes.Processes.{Processes}
+use Rattle.ds_words.specs.Sets.{processes_of}
+use Rattle.ds_words.specs.declared.spans.Span.{Span}
+use Rattle.ds_words.specs.declared.bare_view.BareOnly.{BareOnly}
+use Rattle.ds_words.specs.declared.bare_view.BareOnly.TheVariants as bare_only
+use Rattle.ds_words.specs.declared.bare_view.BareView.{BareView}
+use Rattle.ds_words.specs.Spans.{IsSpan, spans_in, WriteSpans}
 use Rattle.ds_words.specs.Windows.{IsWindow, WriteWindows, windows_in}
 use Rattle.ds_words.specs.declared.windows.Window.{Window}
 use Rattle.ds_words.specs.declared.words.ExplainRequest.{ExplainRequest}

@@ -1,14 +1,21 @@
-//! What the words that the program was started with ask for.
+//! What the words that the program was started with ask for, and which lines of a trace and of a run
+//! on the bare machine are told.
 #![tactic(auto)]
 
+mod bare_view;
 mod commands;
 mod debug;
 mod explain;
+mod processes;
 mod spans;
+mod view;
 mod windows;
 mod words;
 
-pub use ds_bare_view::{BareOnly, BareView, Span, Spans};
+pub use bare_view::{BareOnly, BareView};
+pub use processes::Processes;
+pub use spans::{Span, Spans};
+pub use view::{Only, View};
 pub use windows::{Window, Windows};
 pub use words::{
     BareRequest, CheckRequest, ExplainRequest, Extras, ListRequest, Request, RunRequest,

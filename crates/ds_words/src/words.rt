@@ -2,20 +2,20 @@
 ghost use Rattle.std.specs.Prelude.{ℕ, Option, ◌≡◌, ◌↔◌, ◌<◌, Err, IfErr, IfOk, IfSome, IsSomeAnd, IsTrue, List, None, Ok, Some, codes, map, option_map, string_bytes};
 ghost use Rattle.std.specs.List.{All};
 ghost use Rattle.clap.specs.Words.{FailsBy, all_of, fault_of, first_of, found_of, many_of, one_of, rows_of, subcommand_of, subcommand_rows_of, values_left};
-ghost use Rattle.ds_bare_view.specs.Spans.{spans_in};
-ghost use Rattle.ds_words.specs.Spans.{IsSpan};
+ghost use Rattle.ds_words.specs.Spans.{IsSpan, spans_in};
 ghost use Rattle.ds_words.specs.Windows.{IsWindow, windows_in};
 ghost use Rattle.ds_words.specs.declared.windows.Window.{Window};
 ghost use Rattle.ds_words.specs.Words.{AsksForBare, AsksForCheck, AsksForDebug, AsksForExplain, AsksForList, AsksForRun, AsksForSomething, AsksForTrace, IsGiven, MisnamesMemory, NamesAskedRun, NamesBare, NamesCheck, NamesExplain, NamesExtras, NamesList, NamesMemory, NamesProcesses, NamesRun, NamesTrace, NamesView, WriteProcesses, command_named, dsmon_app, kind_word, NamesBareFlags, NamesBareView, NamesSpans, bare_kind_word, CallsRegisters};
 
+use crate::bare_view::{BareOnly, BareView};
 use crate::commands::command;
-use crate::spans::spans_of;
+use crate::processes::Processes;
+use crate::spans::{Span, Spans, spans_of};
+use crate::view::{Only, View};
 use crate::windows::{Windows, windows_of};
 use clap::parser::ValuesRef;
 use clap::{ArgMatches, Error};
-use ds_bare_view::{BareOnly, BareView, Span, Spans};
 use ds_listing::RegisterNames;
-use ds_view::{Only, Processes, View};
 use std::alloc::Global;
 use std::rt::Env;
 use std::{env, io};

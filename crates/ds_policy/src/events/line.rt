@@ -2,13 +2,14 @@
 ghost use Rattle.std.specs.Prelude.{◌≡◌, ◌≤◌, length, map, take, IfOk};
 ghost use Rattle.std.specs.List.{slice_split};
 ghost use Rattle.ds_policy.specs.PolicyParts.{page_named};
-ghost use Rattle.ds_policy.specs.InputLines.{words_of, process_of, line_of, right_of, give_of, of_process, of_entry, command_of, keys_of, event_of, timed_event_of};
+ghost use Rattle.ds_policy.specs.InputLines.{words_of, process_of, line_of, right_of, place_of, granted, given, grant_of, entry_in, process_in, command_of, keys_of, event_of, event_in, event_at, timed_event_of};
 
 use crate::command::Command;
 use crate::events::MOST_TICKS;
+use crate::events::cause::InputCause;
 use crate::events::digits::{address_of, bytes_of, decimal_of};
 use crate::events::event::{Event, TimedEvent};
-use crate::grant::Right;
+use crate::grant::{EntryPlace, Right};
 use crate::names::NamedPages;
 use std::alloc::{AllocError, Global};
 
@@ -25,100 +26,174 @@ pub(crate) fn words_of<'a>(alloc: Global, line: &'a [u8]) -> Result<Vec<&'a [u8]
 
 /// The event of a line's words.
 #[tactic(auto, unfolding(crate::specs::InputLines::timed_event_of))]
-pub(crate) fn timed_event_of(pages: &NamedPages<'_>, words: &[&[u8]]) -> Option<TimedEvent>
+pub(crate) fn timed_event_of(
+    pages: &NamedPages<'_>,
+    words: &[&[u8]],
+) -> Result<TimedEvent, InputCause>
     requires { length pages.now ≤ 1024 }
     ensures { result ≡ timed_event_of pages.now (map (λ w. w.now) words.now) }
 {
     match words {
-        [t, verb, rest @ ..] => {
-            let time = decimal_of(LATEST, t)?;
-            let event = event_of(pages, verb, rest)?;
-            Some(TimedEvent { time, event })
-        }
-        [] | [_] => None,
+        [t, rest @ ..] => event_at(pages, t, rest),
+        [] => Err(InputCause::BadTime),
     }
 }
 
-fn event_of(pages: &NamedPages<'_>, verb: &[u8], words: &[&[u8]]) -> Option<Event>
+/// The event of a time and the words after it.
+fn event_at(pages: &NamedPages<'_>, t: &[u8], words: &[&[u8]]) -> Result<TimedEvent, InputCause>
+    requires { length pages.now ≤ 1024 }
+    ensures { result ≡ event_at pages.now t.now (map (λ w. w.now) words.now) }
+{
+    let time = decimal_of(LATEST, t).ok_or(InputCause::BadTime)?;
+    let event = event_in(pages, words)?;
+    Ok(TimedEvent { time, event })
+}
+
+fn event_in(pages: &NamedPages<'_>, words: &[&[u8]]) -> Result<Event, InputCause>
+    requires { length pages.now ≤ 1024 }
+    ensures { result ≡ event_in pages.now (map (λ w. w.now) words.now) }
+{
+    match words {
+        [verb, rest @ ..] => event_of(pages, verb, rest),
+        [] => Err(InputCause::WordCount),
+    }
+}
+
+fn event_of(pages: &NamedPages<'_>, verb: &[u8], words: &[&[u8]]) -> Result<Event, InputCause>
     requires { length pages.now ≤ 1024 }
     ensures { result ≡ event_of pages.now verb.now (map (λ w. w.now) words.now) }
 {
     if verb == b"key".as_slice() {
-        keys_of(words)
-    } else {
-        let command = command_of(pages, verb, words)?;
-        Some(Event::Order(command))
+        return keys_of(words);
     }
+    let command = command_of(pages, verb, words)?;
+    Ok(Event::Order(command))
 }
 
 #[tactic(auto, unfolding(crate::specs::InputLines::keys_of))]
-fn keys_of(words: &[&[u8]]) -> Option<Event>
+fn keys_of(words: &[&[u8]]) -> Result<Event, InputCause>
     ensures { result ≡ keys_of (map (λ w. w.now) words.now) }
 {
     match words {
         [l, digits] => {
-            let line = line_of(l)?;
-            let keys = bytes_of(digits)?;
-            Some(Event::Input { line, keys })
+            let line = line_of(l).ok_or(InputCause::BadLine)?;
+            let keys = bytes_of(digits).ok_or(InputCause::BadBytes)?;
+            Ok(Event::Input { line, keys })
         }
-        [] | [_] | [_, _, _, ..] => None,
+        [] | [_] | [_, _, _, ..] => Err(InputCause::WordCount),
     }
 }
 
+/// The command of a verb and the words after it.
 #[tactic(auto, unfolding(crate::specs::InputLines::command_of))]
-fn command_of(pages: &NamedPages<'_>, verb: &[u8], words: &[&[u8]]) -> Option<Command>
+fn command_of(pages: &NamedPages<'_>, verb: &[u8], words: &[&[u8]]) -> Result<Command, InputCause>
     requires { length pages.now ≤ 1024 }
     ensures { result ≡ command_of pages.now verb.now (map (λ w. w.now) words.now) }
 {
-    match words {
-        [p] => of_process(verb, process_of(p)?),
-        [p, a] => of_entry(verb, process_of(p)?, address_of(a)?),
-        [p, a, name, r, rest @ ..] => {
-            let process = process_of(p)?;
-            let address = address_of(a)?;
-            let page = page_named(pages, name)?;
-            let right = right_of(r)?;
-            let give = give_of(rest)?;
-            if verb == b"grant".as_slice() {
-                Some(Command::Grant {
-                    process,
-                    address,
-                    page,
-                    right,
-                    give,
-                })
-            } else {
-                None
-            }
-        }
-        [] | [_, _, _] => None,
-    }
-}
-
-fn of_process(verb: &[u8], process: u32) -> Option<Command>
-    ensures { result ≡ of_process verb.now process }
-{
-    if verb == b"resume".as_slice() {
-        Some(Command::Resume { process })
-    } else if verb == b"stop".as_slice() {
-        Some(Command::Stop { process })
-    } else {
-        None
-    }
-}
-
-fn of_entry(verb: &[u8], process: u32, address: u32) -> Option<Command>
-    ensures { result ≡ of_entry verb.now process address }
-{
-    if verb == b"narrow".as_slice() {
-        Some(Command::Narrow { process, address })
+    if verb == b"grant".as_slice() {
+        grant_of(pages, words)
+    } else if verb == b"narrow".as_slice() {
+        let EntryPlace { process, address } = entry_in(words)?;
+        Ok(Command::Narrow { process, address })
     } else if verb == b"revoke".as_slice() {
-        Some(Command::Revoke { process, address })
+        let EntryPlace { process, address } = entry_in(words)?;
+        Ok(Command::Revoke { process, address })
     } else if verb == b"drop".as_slice() {
-        Some(Command::Drop { process, address })
+        let EntryPlace { process, address } = entry_in(words)?;
+        Ok(Command::Drop { process, address })
+    } else if verb == b"resume".as_slice() {
+        let process = process_in(words)?;
+        Ok(Command::Resume { process })
+    } else if verb == b"stop".as_slice() {
+        let process = process_in(words)?;
+        Ok(Command::Stop { process })
     } else {
-        None
+        Err(InputCause::UnknownEvent)
     }
+}
+
+#[tactic(auto, unfolding(crate::specs::InputLines::grant_of))]
+fn grant_of(pages: &NamedPages<'_>, words: &[&[u8]]) -> Result<Command, InputCause>
+    requires { length pages.now ≤ 1024 }
+    ensures { result ≡ grant_of pages.now (map (λ w. w.now) words.now) }
+{
+    match words {
+        [p, a, name, r] => granted(pages, p, a, name, r, false),
+        [p, a, name, r, word] => given(pages, p, a, name, r, word),
+        [] | [_] | [_, _] | [_, _, _] | [_, _, _, _, _, _, ..] => Err(InputCause::WordCount),
+    }
+}
+
+/// A grant with a word after its right.
+#[tactic(auto, unfolding(crate::specs::InputLines::given))]
+fn given(
+    pages: &NamedPages<'_>,
+    p: &[u8],
+    a: &[u8],
+    name: &[u8],
+    r: &[u8],
+    word: &[u8],
+) -> Result<Command, InputCause>
+    requires { length pages.now ≤ 1024 }
+    ensures { result ≡ given pages.now p.now a.now name.now r.now word.now }
+{
+    let command = granted(pages, p, a, name, r, true)?;
+    if word == b"give".as_slice() {
+        Ok(command)
+    } else {
+        Err(InputCause::BadGive)
+    }
+}
+
+/// A grant of a page, which may be given on.
+#[tactic(auto, unfolding(crate::specs::InputLines::granted))]
+fn granted(
+    pages: &NamedPages<'_>,
+    p: &[u8],
+    a: &[u8],
+    name: &[u8],
+    r: &[u8],
+    give: bool,
+) -> Result<Command, InputCause>
+    requires { length pages.now ≤ 1024 }
+    ensures { result ≡ granted pages.now p.now a.now name.now r.now give }
+{
+    let EntryPlace { process, address } = place_of(p, a)?;
+    let page = page_named(pages, name).ok_or(InputCause::UnknownPage)?;
+    let right = right_of(r).ok_or(InputCause::BadRight)?;
+    Ok(Command::Grant {
+        process,
+        address,
+        page,
+        right,
+        give,
+    })
+}
+
+fn entry_in(words: &[&[u8]]) -> Result<EntryPlace, InputCause>
+    ensures { result ≡ entry_in (map (λ w. w.now) words.now) }
+{
+    match words {
+        [p, a] => place_of(p, a),
+        [] | [_] | [_, _, _, ..] => Err(InputCause::WordCount),
+    }
+}
+
+fn process_in(words: &[&[u8]]) -> Result<u32, InputCause>
+    ensures { result ≡ process_in (map (λ w. w.now) words.now) }
+{
+    match words {
+        [p] => process_of(p).ok_or(InputCause::BadProcess),
+        [] | [_, _, ..] => Err(InputCause::WordCount),
+    }
+}
+
+fn place_of(p: &[u8], a: &[u8]) -> Result<EntryPlace, InputCause>
+    ensures { result ≡ place_of p.now a.now }
+{
+    let process = process_of(p).ok_or(InputCause::BadProcess)?;
+    let address = address_of(a).ok_or(InputCause::BadAddress)?;
+    Ok(EntryPlace { process, address })
 }
 
 fn process_of(word: &[u8]) -> Option<u32>
@@ -148,22 +223,6 @@ fn right_of(word: &[u8]) -> Option<Right>
         Some(Right::Write)
     } else {
         None
-    }
-}
-
-fn give_of(words: &[&[u8]]) -> Option<bool>
-    ensures { result ≡ give_of (map (λ w. w.now) words.now) }
-{
-    match words {
-        [] => Some(false),
-        [word] => {
-            if *word == b"give".as_slice() {
-                Some(true)
-            } else {
-                None
-            }
-        }
-        [_, _, ..] => None,
     }
 }
 

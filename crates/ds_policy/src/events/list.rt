@@ -1,8 +1,9 @@
 //! The events of an input, one after the other.
 ghost use Rattle.std.specs.Prelude.{◌≡◌, ◌≤◌, ◌<◌, ◌+◌, ◌++◌, length, OnOk, OnErr, true};
-ghost use Rattle.ds_policy.specs.InputText.{nothing_said, follows, with_command, with_characters};
+ghost use Rattle.ds_policy.specs.InputText.{nothing_said, follows, order_cause, with_command, with_characters};
 
 use crate::command::{Command, TimedCommand};
+use crate::events::cause::InputCause;
 use crate::events::characters::Characters;
 use std::alloc::{AllocError, Global};
 use std::marker::Model;
@@ -56,6 +57,17 @@ impl EventList {
         ensures { result ≡ follows self.now time }
     {
         self.latest <= time && self.events < MOST_EVENTS
+    }
+
+    /// Why an event at this time may not follow.
+    pub(crate) fn order_cause(&self, time: u32) -> InputCause
+        ensures { result ≡ order_cause self.now time }
+    {
+        if time < self.latest {
+            InputCause::EarlierTime
+        } else {
+            InputCause::TooManyEvents
+        }
     }
 
     /// Adds a command that is due at a time, in ticks, with the next number. For want of memory

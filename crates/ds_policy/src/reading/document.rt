@@ -4,24 +4,26 @@ ghost use Rattle.std.specs.List.{list_all, list_any};
 ghost use Rattle.std.specs.BTreeMap.{keys};
 ghost use Rattle.toml.specs.Data.{get_member};
 ghost use Rattle.toml.specs.View.{view, table_view, items_view};
-ghost use Rattle.ds_policy.specs.Refusal.{Gives, or_else, bad_toml, limit};
+ghost use Rattle.ds_policy.specs.Refusal.{IsRead, or_else};
+ghost use Rattle.ds_policy.specs.declared.cause.PolicyReason.TheVariants.{NotToml};
 ghost use Rattle.ds_policy.specs.Document.{document, number_in, number_at, text_at, is_among, has_only, item_count, items_between};
 
-use crate::fault::PolicyFault;
+use crate::cause::PolicyReason;
+use crate::unread::Unread;
 use std::alloc::Global;
 use toml::{Table, Value};
 
 /// The root table of a text.
-pub fn root(alloc: Global, text: &[u8]) -> Result<Table, PolicyFault>
-    ensures { Gives (λ t. table_view t) result (or_else (document text.now) bad_toml) }
+pub fn root(alloc: Global, text: &[u8]) -> Result<Table, Unread<PolicyReason>>
+    ensures { IsRead (λ t. table_view t) result (or_else (document text.now) NotToml) }
 {
     match toml::table_from_slice(alloc, text) {
         Ok(table) => Ok(table),
         Err(e) => {
             if e.is_memory() {
-                Err(PolicyFault::Memory)
+                Err(Unread::Memory)
             } else {
-                Err(PolicyFault::BadToml)
+                Err(Unread::Reason(PolicyReason::NotToml))
             }
         }
     }
@@ -65,10 +67,7 @@ pub fn value_at<'a>(table: &'a Table, key: &str) -> Option<&'a Value>
 pub fn text_at<'a>(table: &'a Table, key: &str) -> Option<&'a str>
     ensures { option_map (λ s. s.now) result ≡ text_at key.now (table_view table.now) }
 {
-    match value_at(table, key) {
-        Some(value) => value.as_str(),
-        None => None,
-    }
+    value_at(table, key)?.as_str()
 }
 
 /// The integer at a key, if there is one from `low` to `high`.
@@ -76,10 +75,7 @@ pub fn number_of(table: &Table, key: &str, low: u32, high: u32) -> Option<u32>
     ensures exact { result ≡ number_at key.now low high (table_view table.now) }
     ensures within { IfSome result (λ n. (low ≤ n) × (n ≤ high)) }
 {
-    match value_at(table, key) {
-        Some(value) => number(value, low, high),
-        None => None,
-    }
+    number(value_at(table, key)?, low, high)
 }
 
 /// The integer that a value is, if it is one from `low` to `high`.
@@ -87,22 +83,19 @@ pub fn number(value: &Value, low: u32, high: u32) -> Option<u32>
     ensures exact { result ≡ number_in low high (view value.now) }
     ensures within { IfSome result (λ n. (low ≤ n) × (n ≤ high)) }
 {
-    match value.as_integer() {
-        Some(x) => match u32::try_from(x) {
-            Ok(n) => { if low <= n && n <= high { Some(n) } else { None } }
-            Err(_) => None,
-        },
-        None => None,
+    match u32::try_from(value.as_integer()?) {
+        Ok(n) => { if low <= n && n <= high { Some(n) } else { None } }
+        Err(_) => None,
     }
 }
 
 /// The number that a key has to have.
-pub fn required(found: Option<u32>, key: &'static str) -> Result<u32, PolicyFault>
-    ensures { Gives (λ n. n) result (or_else found (limit key.now)) }
+pub fn required(found: Option<u32>, reason: PolicyReason) -> Result<u32, Unread<PolicyReason>>
+    ensures { IsRead (λ n. n) result (or_else found reason) }
 {
     match found {
         Some(n) => Ok(n),
-        None => Err(PolicyFault::Limit(key)),
+        None => Err(Unread::Reason(reason)),
     }
 }
 

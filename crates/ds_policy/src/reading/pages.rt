@@ -1,18 +1,20 @@
 //! The pages of a policy.
-ghost use Rattle.std.specs.Prelude.{◌≡◌, ◌≤◌, List, length, option_map, IfOk, IfSome, None};
+ghost use Rattle.std.specs.Prelude.{◌≡◌, ◌≤◌, List, length, option_map, IfOk, None};
+ghost use Rattle.std.specs.Result.{result_map_both};
 ghost use Rattle.std.specs.List.{list_all};
 ghost use Rattle.toml.specs.View.{view, table_view, items_view};
-ghost use Rattle.ds_policy.specs.Refusal.{Gives};
+ghost use Rattle.ds_policy.specs.Refusal.{IsRead};
 ghost use Rattle.ds_policy.specs.PolicyParts.{is_name, is_name_byte, is_source_name, is_source_byte, source_of, page_of, new_page};
 ghost use Rattle.ds_policy.specs.PolicyText.{pages_from, pages_of};
 ghost use Rattle.ds_policy.specs.Names.{held_number, AreNamed};
 ghost use Rattle.ds_policy.specs.declared.policy.PolicyPage.{PolicyPage};
 
-use crate::fault::PolicyFault;
+use crate::cause::{PageCause, PolicyReason};
 use crate::names::Names;
 use crate::policy::{PolicyPage, Source};
 use crate::reading::document::{has_only, items_between, number_of, text_at};
 use crate::text::Text;
+use crate::unread::Unread;
 use std::alloc::Global;
 use toml::{Table, Value};
 
@@ -22,33 +24,40 @@ pub fn pages_of(
     alloc: Global,
     frames: u32,
     found: Option<&Value>,
-) -> Result<Vec<PolicyPage>, PolicyFault>
-    ensures exact { Gives (λ v. v.items) result
+) -> Result<Vec<PolicyPage>, Unread<PolicyReason>>
+    ensures exact { IsRead (λ v. v.items) result
         (pages_of frames (option_map (λ v. view v.now) found.entry)) }
     ensures fits { IfOk result (λ v. length v.items ≤ frames) }
 {
     match found {
         Some(value) => match items_between(value, 0, frames as usize) {
             Some(values) => pages_in(alloc, values),
-            None => Err(PolicyFault::Limit("page")),
+            None => Err(Unread::Reason(PolicyReason::PageCount)),
         },
         None => Ok(Vec::new(alloc)),
     }
 }
 
-fn pages_in(alloc: Global, values: &[Value]) -> Result<Vec<PolicyPage>, PolicyFault>
-    ensures exact { Gives (λ v. v.items) result (pages_from (items_view values.now)) }
+fn pages_in(alloc: Global, values: &[Value]) -> Result<Vec<PolicyPage>, Unread<PolicyReason>>
+    requires { length values.now ≤ 4294967295 }
+    ensures exact { IsRead (λ v. v.items) result (pages_from (items_view values.now)) }
     ensures fits { IfOk result (λ v. length v.items ≤ length values.now) }
 {
     let mut pages = Vec::new(alloc);
     let mut names = Names::new(alloc);
     for value in values {
+        let number = pages.len();
         match new_page(&names, value) {
-            Some((name, page)) => {
-                names.insert(name, pages.len())?;
+            Ok((name, page)) => {
+                names.insert(name, number)?;
                 pages.push(page)?;
             }
-            None => return Err(PolicyFault::Limit("page")),
+            Err(cause) => {
+                return Err(Unread::Reason(PolicyReason::Page {
+                    number: number as u32 + 1,
+                    cause,
+                }));
+            }
         }
     }
     Ok(pages)
@@ -56,31 +65,34 @@ fn pages_in(alloc: Global, values: &[Value]) -> Result<Vec<PolicyPage>, PolicyFa
 
 /// A page whose name none has, and its name.
 #[tactic(auto, unfolding(crate::specs::PolicyParts::new_page))]
-fn new_page<'a>(names: &Names<'a>, value: &'a Value) -> Option<(&'a [u8], PolicyPage)>
+fn new_page<'a>(names: &Names<'a>, value: &'a Value) -> Result<(&'a [u8], PolicyPage), PageCause>
     ensures page { (before : List PolicyPage) → AreNamed names.now before
-        → option_map (λ p. p.1) result ≡ new_page before (view value.now) }
-    ensures name { IfSome result (λ p. p.0.now ≡ p.1.name) }
-    ensures absent { IfSome result (λ p. held_number names.now p.0.now ≡ None) }
+        → result_map_both (λ p. p.1) (λ e. e) result ≡ new_page before (view value.now) }
+    ensures name { IfOk result (λ p. p.0.now ≡ p.1.name) }
+    ensures absent { IfOk result (λ p. held_number names.now p.0.now ≡ None) }
 {
     let found = page_of(value)?;
     if names.number_of(found.0).is_some() {
-        return None;
+        return Err(PageCause::SameName);
     }
-    Some(found)
+    Ok(found)
 }
 
 #[tactic(auto, unfolding(crate::specs::PolicyParts::page_of))]
-fn page_of(value: &Value) -> Option<(&[u8], PolicyPage)>
-    ensures page { option_map (λ p. p.1) result ≡ page_of (view value.now) }
-    ensures name { IfSome result (λ p. p.0.now ≡ p.1.name) }
+fn page_of(value: &Value) -> Result<(&[u8], PolicyPage), PageCause>
+    ensures page { result_map_both (λ p. p.1) (λ e. e) result ≡ page_of (view value.now) }
+    ensures name { IfOk result (λ p. p.0.now ≡ p.1.name) }
 {
-    let table = value.as_table()?;
-    let name = text_at(table, "name")?;
+    let table = value.as_table().ok_or(PageCause::NotTable)?;
+    if !has_only(table, &["name", "source", "part"]) {
+        return Err(PageCause::OtherKey);
+    }
+    let name = text_at(table, "name").ok_or(PageCause::BadName)?;
     if !is_name(name) {
-        return None;
+        return Err(PageCause::BadName);
     }
     let source = source_of(table)?;
-    Some((
+    Ok((
         name.as_bytes(),
         PolicyPage {
             name: Text::of(name),
@@ -90,21 +102,18 @@ fn page_of(value: &Value) -> Option<(&[u8], PolicyPage)>
 }
 
 #[tactic(auto, unfolding(crate::specs::PolicyParts::source_of))]
-fn source_of(table: &Table) -> Option<Option<Source>>
+fn source_of(table: &Table) -> Result<Option<Source>, PageCause>
     ensures { result ≡ source_of (table_view table.now) }
 {
     if has_only(table, &["name"]) {
-        return Some(None);
+        return Ok(None);
     }
-    if !has_only(table, &["name", "source", "part"]) {
-        return None;
-    }
-    let name = text_at(table, "source")?;
+    let name = text_at(table, "source").ok_or(PageCause::BadSource)?;
     if !is_source_name(name) {
-        return None;
+        return Err(PageCause::BadSource);
     }
-    let part = number_of(table, "part", 0, 15)?;
-    Some(Some(Source {
+    let part = number_of(table, "part", 0, 15).ok_or(PageCause::BadPart)?;
+    Ok(Some(Source {
         name: Text::of(name),
         part: part as u8,
     }))

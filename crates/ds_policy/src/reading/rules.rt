@@ -1,21 +1,21 @@
 //! The rules of a policy.
-ghost use Rattle.std.specs.Prelude.{◌≡◌, ◌≤◌, ◌==◌, ◌+◌, ◌&&◌, ◌∷◌, ◌++◌, [], List, length, option_map, count_by, nat_le, IfSome, OnOk};
+ghost use Rattle.std.specs.Prelude.{◌≡◌, ◌≤◌, ◌==◌, ◌+◌, ◌&&◌, ◌∷◌, ◌++◌, [], List, length, option_map, count_by, nat_le, IfOk, OnOk};
 ghost use Rattle.std.specs.List.{list_any};
 ghost use Rattle.toml.specs.View.{view, table_view, items_view};
-ghost use Rattle.ds_policy.specs.Refusal.{Gives};
-ghost use Rattle.ds_policy.specs.Document.{has_only};
+ghost use Rattle.ds_policy.specs.Refusal.{IsRead};
 ghost use Rattle.ds_policy.specs.Grants.{region, count_distinct};
-ghost use Rattle.ds_policy.specs.PolicyParts.{right_named, flag_of, until_of, rule_keys, grant_of, rule_of, has_same_place, new_rule, regions_of};
+ghost use Rattle.ds_policy.specs.PolicyParts.{right_named, flag_of, until_of, may_end, nothing_of, grant_of, rule_of, has_same_place, beside, new_rule, regions_of};
 ghost use Rattle.ds_policy.specs.PolicyText.{rules_from, rules_of};
-ghost use Rattle.ds_policy.specs.OwnRules.{AreByProcess, leaves_room};
+ghost use Rattle.ds_policy.specs.OwnRules.{AreByProcess};
 ghost use Rattle.ds_policy.specs.declared.policy.PolicyRule.{PolicyRule};
 
-use crate::fault::PolicyFault;
+use crate::cause::{PolicyReason, RuleCause};
 use crate::grant::Right;
 use crate::names::NamedPages;
 use crate::policy::{PolicyPage, PolicyRule};
 use crate::reading::document::{has_only, items_between, number, number_of, text_at, value_at};
 use crate::reading::own::{OwnRules, no_rules};
+use crate::unread::Unread;
 use std::alloc::{AllocError, Global};
 use toml::{Table, Value};
 
@@ -27,9 +27,9 @@ pub fn rules_of(
     processes: u32,
     pages: &[PolicyPage],
     found: Option<&Value>,
-) -> Result<Vec<PolicyRule>, PolicyFault>
+) -> Result<Vec<PolicyRule>, Unread<PolicyReason>>
     requires { length pages.now ≤ 1024 }
-    ensures { Gives (λ v. v.items) result
+    ensures { IsRead (λ v. v.items) result
         (rules_of version processes pages.now (option_map (λ v. view v.now) found.entry)) }
 {
     match found {
@@ -38,7 +38,7 @@ pub fn rules_of(
                 let pages = NamedPages::of(alloc, pages)?;
                 rules_in(alloc, version, processes, &pages, values)
             }
-            None => Err(PolicyFault::Limit("rule")),
+            None => Err(Unread::Reason(PolicyReason::RuleCount)),
         },
         None => Ok(Vec::new(alloc)),
     }
@@ -50,20 +50,26 @@ fn rules_in(
     processes: u32,
     pages: &NamedPages<'_>,
     values: &[Value],
-) -> Result<Vec<PolicyRule>, PolicyFault>
+) -> Result<Vec<PolicyRule>, Unread<PolicyReason>>
     requires pages_fit { length pages.now ≤ 1024 }
     requires values_fit { length values.now ≤ 999 }
-    ensures { Gives (λ v. v.items) result (rules_from version processes pages.now (items_view values.now)) }
+    ensures { IsRead (λ v. v.items) result
+        (rules_from version processes pages.now (items_view values.now)) }
 {
     let mut rules = Vec::new(alloc);
     let mut owns = no_rules(alloc, processes as usize)?;
     for value in values {
         match new_rule(version, processes, pages, &owns, value) {
-            Some(rule) => {
+            Ok(rule) => {
                 add_to(&mut owns, rule)?;
                 rules.push(rule)?;
             }
-            None => return Err(PolicyFault::BadRule(rules.len() as u32 + 1)),
+            Err(cause) => {
+                return Err(Unread::Reason(PolicyReason::Rule {
+                    number: rules.len() as u32 + 1,
+                    cause,
+                }));
+            }
         }
     }
     Ok(rules)
@@ -82,38 +88,41 @@ fn add_to(owns: &mut Vec<OwnRules>, rule: PolicyRule) -> Result<(), AllocError>
     Ok(())
 }
 
-/// The rule that a value is, where those of its process leave room for it.
+/// The rule that a value is, beside those of its process.
+#[tactic(auto, unfolding(crate::specs::PolicyParts::new_rule))]
 fn new_rule(
     version: u32,
     processes: u32,
     pages: &NamedPages<'_>,
     owns: &[OwnRules],
     value: &Value,
-) -> Option<PolicyRule>
+) -> Result<PolicyRule, RuleCause>
     requires pages_fit { length pages.now ≤ 1024 }
     requires each { length owns.now ≡ processes }
     ensures exact { (before : List PolicyRule) → AreByProcess owns.now before
         → result ≡ new_rule version processes pages.now before (view value.now) }
-    ensures within { IfSome result (λ r. (1 ≤ r.process) × (r.process ≤ processes)) }
+    ensures within { IfOk result (λ r. (1 ≤ r.process) × (r.process ≤ processes)) }
 {
     let rule = rule_of(version, processes, pages, value)?;
-    if !leaves_room(owns[rule.process as usize - 1].rules(), &rule) {
-        return None;
-    }
-    Some(rule)
+    beside(owns[rule.process as usize - 1].rules(), rule)
 }
 
-/// Whether there may be one more rule of a process beside those that it has.
-fn leaves_room(own: &[PolicyRule], rule: &PolicyRule) -> bool
-    ensures { result ≡ leaves_room own.now rule.now }
+/// A rule, where there may be one more of its process beside those that it has.
+#[tactic(auto, unfolding(crate::specs::PolicyParts::beside))]
+fn beside(own: &[PolicyRule], rule: PolicyRule) -> Result<PolicyRule, RuleCause>
+    ensures exact { result ≡ beside own.now rule }
+    ensures same { IfOk result (λ r. r ≡ rule) }
 {
-    if is_taken(own, rule) {
-        return false;
+    if is_taken(own, &rule) {
+        return Err(RuleCause::SamePlace);
     }
     if count_of(own, rule.process) >= 256 {
-        return false;
+        return Err(RuleCause::TooManyRules);
     }
-    fits_regions(own, rule.process, rule.address)
+    if !fits_regions(own, rule.process, rule.address) {
+        return Err(RuleCause::FifthRegion);
+    }
+    Ok(rule)
 }
 
 #[tactic(auto, unfolding(crate::specs::PolicyParts::rule_of))]
@@ -122,20 +131,30 @@ fn rule_of(
     processes: u32,
     pages: &NamedPages<'_>,
     value: &Value,
-) -> Option<PolicyRule>
+) -> Result<PolicyRule, RuleCause>
     requires { length pages.now ≤ 1024 }
     ensures exact { result ≡ rule_of version processes pages.now (view value.now) }
-    ensures within { IfSome result (λ r. (1 ≤ r.process) × (r.process ≤ processes)) }
+    ensures within { IfOk result (λ r. (1 ≤ r.process) × (r.process ≤ processes)) }
 {
-    let table = value.as_table()?;
-    let process = number_of(table, "process", 1, processes)?;
-    let address = number_of(table, "address", 0, 0x7FFF_FFFF)?;
-    if address % 4096 != 0 {
-        return None;
+    let table = value.as_table().ok_or(RuleCause::NotTable)?;
+    if !has_only(
+        table,
+        &["process", "address", "right", "page", "give", "until"],
+    ) {
+        return Err(RuleCause::OtherKey);
     }
-    let right = right_named(text_at(table, "right")?)?;
-    let (page, give, until) = grant_of(version, pages, right, table)?;
-    Some(PolicyRule {
+    if !may_end(version, table) {
+        return Err(RuleCause::UntilOfVersion1);
+    }
+    let process = number_of(table, "process", 1, processes).ok_or(RuleCause::BadProcess)?;
+    let address = number_of(table, "address", 0, 0x7FFF_FFFF).ok_or(RuleCause::BadAddress)?;
+    if address % 4096 != 0 {
+        return Err(RuleCause::BadAddress);
+    }
+    let right = text_at(table, "right").ok_or(RuleCause::BadRight)?;
+    let right = right_named(right).ok_or(RuleCause::BadRight)?;
+    let (page, give, until) = grant_of(pages, right, table)?;
+    Ok(PolicyRule {
         process,
         address,
         right,
@@ -143,6 +162,16 @@ fn rule_of(
         give,
         until,
     })
+}
+
+/// Whether a rule of this version may have an end, or has none.
+fn may_end(version: u32, table: &Table) -> bool
+    ensures { result ≡ may_end version (table_view table.now) }
+{
+    match value_at(table, "until") {
+        Some(_) => version == 2,
+        None => true,
+    }
 }
 
 fn right_named(text: &str) -> Option<Right>
@@ -161,45 +190,35 @@ fn right_named(text: &str) -> Option<Right>
 
 #[tactic(auto, unfolding(crate::specs::PolicyParts::grant_of))]
 fn grant_of(
-    version: u32,
     pages: &NamedPages<'_>,
     right: Right,
     table: &Table,
-) -> Option<(Option<u32>, bool, Option<u32>)>
+) -> Result<(Option<u32>, bool, Option<u32>), RuleCause>
     requires { length pages.now ≤ 1024 }
-    ensures { result ≡ grant_of version pages.now right (table_view table.now) }
+    ensures { result ≡ grant_of pages.now right (table_view table.now) }
 {
     match right {
-        Right::Nothing => {
-            if !has_only(table, &["process", "address", "right"]) {
-                return None;
-            }
-            Some((None, false, None))
-        }
+        Right::Nothing => nothing_of(table),
         Right::Read | Right::Write => {
-            if !has_rule_keys(version, table) {
-                return None;
-            }
-            let name = text_at(table, "page")?;
-            let page = pages.number_of(name.as_bytes())?;
-            let give = flag_of(value_at(table, "give"))?;
-            let until = until_of(value_at(table, "until"))?;
-            Some((Some(page as u32), give, until))
+            let name = text_at(table, "page").ok_or(RuleCause::BadPage)?;
+            let page = pages.number_of(name.as_bytes()).ok_or(RuleCause::BadPage)?;
+            let give = flag_of(value_at(table, "give")).ok_or(RuleCause::BadGive)?;
+            let until = until_of(value_at(table, "until")).ok_or(RuleCause::BadUntil)?;
+            Ok((Some(page as u32), give, until))
         }
     }
 }
 
-/// Whether each key is one of a rule with a right. From version 2 on it may have an end.
-fn has_rule_keys(version: u32, table: &Table) -> bool
-    ensures { result ≡ has_only (rule_keys version) (table_view table.now) }
+/// What a rule without a right grants, beside which nothing stands.
+fn nothing_of(table: &Table) -> Result<(Option<u32>, bool, Option<u32>), RuleCause>
+    ensures { result ≡ nothing_of (table_view table.now) }
 {
-    if version == 2 {
-        has_only(
-            table,
-            &["process", "address", "right", "page", "give", "until"],
-        )
+    if has_only(table, &["process", "address", "right"]) {
+        Ok((None, false, None))
+    } else if has_only(table, &["process", "address", "right", "until"]) {
+        Err(RuleCause::UntilOfNone)
     } else {
-        has_only(table, &["process", "address", "right", "page", "give"])
+        Err(RuleCause::PageOfNone)
     }
 }
 
@@ -249,7 +268,7 @@ fn fits_regions(rules: &[PolicyRule], process: u32, address: u32) -> bool
 }
 
 /// In how many regions the rules of a process are.
-fn count_regions(rules: &[PolicyRule], process: u32) -> usize
+pub fn count_regions(rules: &[PolicyRule], process: u32) -> usize
     ensures exact { result ≡ count_distinct (regions_of process rules.now) }
     ensures fits { result ≤ length rules.now }
 {

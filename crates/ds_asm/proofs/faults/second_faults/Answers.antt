@@ -5,7 +5,8 @@ use Rattle.ds_asm.specs.Assembly.{with_line, with_lines, lines_of}
 use Rattle.ds_asm.specs.Assembling.{held_address}
 use Rattle.ds_asm.specs.Lines.{line_of}
 use Rattle.ds_asm.proofs.SourceLines.{lines_of-first, after_within}
-use Rattle.ds_asm.proofs.AllFaults.{laid_size, one_more, second_step}
+use Rattle.ds_asm.proofs.AllFaults.{one_more, second_step}
+use Rattle.ds_asm.proofs.ImageSizes.{laid_size}
 use Rattle.ds_asm.proofs.faults.second_faults.Goals as goal
 
 pub overflow_add-place : goal.overflow_add-place

@@ -1,6 +1,6 @@
 use Rattle.std.specs.Prelude.{codes}
 use Rattle.ds_log.proofs.Sends.{ok_gives}
-use Rattle.ds_listing.specs.Texts.{hex8}
+use Rattle.ds_text.specs.Digits.{hex8}
 use Rattle.ds_bare.specs.Steps.{code_text, raised_text}
 use Rattle.ds_bare.proofs.Pieces.{four_pieces}
 use Rattle.ds_bare.proofs.step.push_raised.Goals as goal

@@ -1,6 +1,6 @@
 use Rattle.std.proofs.Common.{◌≡◌, ◌∙◌, ℕ, List, map, ap, refl, subst, sym, rules}
 use Rattle.std.specs.Prelude.{None}
-use Rattle.ds_policy_reasons.specs.Policies.{policy_reason}
+use Rattle.ds_policy_reasons.specs.Reasons.{policy_reason}
 use Rattle.ds_station.specs.Headline.{sources_seen}
 use Rattle.ds_drive.specs.declared.run.SourceText.{SourceText}
 use Rattle.ds_drive.specs.AtFault.{IsPlaceAt, IsReasonAt, place_told, plain, texts_seen}

@@ -1,6 +1,6 @@
 use Rattle.std.proofs.Common.{List, ℕ, ◌++◌, ◌∙◌, ap, codes}
 use Rattle.ds_log_reasons.proofs.Adding.{gives, joined}
-use Rattle.ds_listing.specs.Texts.{hex8}
+use Rattle.ds_text.specs.Digits.{hex8}
 use Rattle.ds_log_reasons.proofs.Slots.{near_is}
 use Rattle.ds_log_reasons.specs.Sentences.{number_text}
 use Rattle.ds_log_reasons.proofs.sentences.push_near.Goals as goal

@@ -1,6 +1,5 @@
 use Rattle.std.proofs.Common.{◌≤◌, arith}
-use Rattle.ds_bare_view.specs.Spans.{spans_in}
-use Rattle.ds_words.specs.Spans.{WritesSpan}
+use Rattle.ds_words.specs.Spans.{spans_in, WritesSpan}
 use Rattle.ds_words.proofs.SpanTexts.{spans_good}
 use Rattle.ds_words.proofs.WindowTexts.{read_on, not_read, no_room}
 use Rattle.ds_words.proofs.spans.spans_of.Goals as goal

@@ -1,7 +1,6 @@
 use Rattle.std.proofs.Common.{◌≡◌, ◌≤◌, map, take}
 use Rattle.std.specs.List.{AllZip}
-use Rattle.ds_bare_view.specs.Spans.{spans_in}
-use Rattle.ds_words.specs.Spans.{WritesSpan}
+use Rattle.ds_words.specs.Spans.{spans_in, WritesSpan}
 use Rattle.ds_words.proofs.spans.spans_of.Given as goal
 
 abbrev pub invariant-loop-text : goal.invariant-loop-text

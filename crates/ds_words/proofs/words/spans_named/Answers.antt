@@ -1,5 +1,5 @@
 use Rattle.clap.specs.Words.{found_of}
-use Rattle.ds_bare_view.specs.Spans.{spans_in}
+use Rattle.ds_words.specs.Spans.{spans_in}
 use Rattle.ds_words.proofs.SpanTexts.{spans_absent, spans_read, spans_unread}
 use Rattle.ds_words.proofs.WindowTexts.{strings_found, strings_wanting}
 use Rattle.ds_words.proofs.words.spans_named.Goals as goal

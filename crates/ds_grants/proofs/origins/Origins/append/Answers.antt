@@ -1,7 +1,7 @@
-use Rattle.std.proofs.Common.{◌≡◌, true, None, position, sym, subst}
+use Rattle.std.proofs.Common.{arith, ◌≡◌, true, None, position, sym, subst}
 use Rattle.ds_grants.specs.Origins.{OriginsState, Has, receivers_of}
 use Rattle.ds_grants.proofs.Known.{is_at, in_everyone, unknown_at, appended_at, kept_appended, kept_overflowed}
-use Rattle.ds_grants.proofs.Seen.{seen_more}
+use Rattle.ds_grants.proofs.Seen.{seen_more, apart_more}
 use Rattle.ds_grants.proofs.origins.Origins.append.Goals as goal
 
 pub returns-then-self-clause-added : goal.returns-then-self-clause-added
@@ -33,5 +33,8 @@ returns-else-is_full-clause-kept c = λ a q h.
 
 pub invariant_of-self-else-is_full : goal.invariant_of-self-else-is_full
 invariant_of-self-else-is_full c =
-    rw (c.push.ensures.items, c.slot_of.ensures.value)
-    (seen_more c.self.inside.seen c.self.inside.known.items (record { address = c.args.addr; receivers = c.args.receivers }) c.self.invariant)
+    let unknown = subst (λ (o : OriginsState). position (is_at c.args.addr) o.known ≡ None) (sym c.self.view_is) c.requires.unknown in
+    rw (c.push.ensures.items, c.slot_of.ensures.value) (
+      seen_more c.self.inside.places c.self.inside.known.items (record { address = c.args.addr; receivers = c.args.receivers }) _ (omega arith) c.self.invariant.0,
+      apart_more c.self.inside.known.items (record { address = c.args.addr; receivers = c.args.receivers }) unknown c.self.invariant.1,
+    )

@@ -19,5 +19,8 @@ returns-in-None c =
     ∙ sym (unknown_at c.self.inside.known.items c.self.inside.overflowed c.args.addr is)
     ∙ ap (λ (o : OriginsState). receivers_of o c.args.addr) c.self.view_is
 
-pub find-requires : goal.find-requires
-find-requires c = rw c.as_slice.ensures.value c.self.invariant
+pub find-requires-clause-seen : goal.find-requires-clause-seen
+find-requires-clause-seen c = rw c.as_slice.ensures.value c.self.invariant.0
+
+pub find-requires-clause-apart : goal.find-requires-clause-apart
+find-requires-clause-apart c = rw c.as_slice.ensures.value c.self.invariant.1

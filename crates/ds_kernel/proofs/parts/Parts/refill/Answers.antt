@@ -1,8 +1,8 @@
 use Rattle.std.proofs.Common.{refl, ap, subst, sym, arith}
 use Rattle.std.specs.Prelude.{is_some}
 use Rattle.ds_core.specs.Core.{CoreState}
-use Rattle.ds_refill_laws.specs.Refill.{handler_events}
-use Rattle.ds_handler.specs.Refills.{RunsInside}
+use Rattle.ds_refill.specs.Refill.{handler_events}
+use Rattle.ds_refill.specs.Refills.{RunsInside}
 use Rattle.ds_refinement.proofs.FirstWord.{first_next, refill_user, refill_outside}
 use Rattle.ds_refinement.proofs.Tallied.{few_of}
 use Rattle.ds_refinement.proofs.WordTallies.{word_room}

@@ -1,8 +1,0 @@
-use Rattle.ds_bounds.proofs.Slots.{keys_reworded, keys_again}
-use Rattle.ds_bounds.proofs.units.keys_stay.Goals as goal
-
-pub returns-clause-one : goal.returns-clause-one
-returns-clause-one c = keys_reworded
-
-pub returns-clause-many : goal.returns-clause-many
-returns-clause-many c = keys_again

@@ -1,7 +1,0 @@
-use Rattle.std.proofs.Common.{◌≡◌, take}
-use Rattle.std.specs.List.{flat_map}
-use Rattle.ds_notes.specs.Texts.{code_line}
-use Rattle.ds_notes.proofs.texts.code_notes_text.Given as goal
-
-abbrev pub invariant-loop-note : goal.invariant-loop-note
-invariant-loop-note l = l.sheet.items ≡ flat_map (code_line l.name) (take l.note-index l.notes)

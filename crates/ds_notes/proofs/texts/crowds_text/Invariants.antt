@@ -1,7 +1,0 @@
-use Rattle.std.proofs.Common.{◌≡◌, take}
-use Rattle.std.specs.List.{flat_map}
-use Rattle.ds_notes.specs.Texts.{crowd_line}
-use Rattle.ds_notes.proofs.texts.crowds_text.Given as goal
-
-abbrev pub invariant-loop-crowd : goal.invariant-loop-crowd
-invariant-loop-crowd l = l.sheet.items ≡ flat_map (crowd_line) (take l.crowd-index l.crowds)

@@ -1,8 +1,0 @@
-use Rattle.ds_quiet.proofs.Runs.{quiet_text, one_text}
-use Rattle.ds_quiet.proofs.laws.quiet_runs_look_alike.Goals as goal
-
-pub returns-clause-untouched : goal.returns-clause-untouched
-returns-clause-untouched c = quiet_text
-
-pub returns-clause-one : goal.returns-clause-one
-returns-clause-one c = one_text

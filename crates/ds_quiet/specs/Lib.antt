@@ -1,4 +1,0 @@
-pub mod Alike
-pub mod Twins
-pub mod Quiet
-pub mod Rows

@@ -1,5 +1,0 @@
-use Rattle.ds_refill_laws.proofs.Whole.{whole}
-use Rattle.ds_refill_laws.proofs.laws.a_refill_goes_back.Goals as goal
-
-pub returns : goal.returns
-returns c = whole

@@ -1,2 +1,0 @@
-pub mod Refill
-pub mod Rows

@@ -1,3 +1,0 @@
-pub mod Expected
-pub mod Rows
-pub mod Tables
