@@ -6,7 +6,8 @@
     tools/believe.py --of FILE FUNCTION CLAUSE..   prints the definitions on which these clauses of a function rest, or all
 
 The lists stand in tools/believe/page.py. A name that can't be followed, a field that no type of the lists has, a clause of `run_files` that is in no
-list, and one that docs/theorems.md doesn't show are told with their places, and the status is 1.
+list, and one that docs/theorems.md doesn't show are told with their places, and the status is 1. So are a definition of specs/ in no list that stands neither below Inner nor
+below Rows, and a name that two modules besides these give to different things, unless the glossary has it among its homonyms.
 """
 import sys
 from pathlib import Path

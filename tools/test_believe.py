@@ -1,6 +1,7 @@
 #!/usr/bin/env python3
 """Tests of tools/believe.py, over a toy crate: what a clause rests on, and what is told of a name, a page or a document that is wrong."""
 import unittest
+from pathlib import Path
 
 from believe.page import Asked, named_by, page
 from believe.repository import Repository
@@ -11,7 +12,8 @@ FILES = {
     "crates/toy/src/run.rt": """\
 //! A run.
 ghost use Rattle.std.specs.Prelude.{◌≡◌, IfOk, ℕ};
-ghost use Rattle.toy.specs.Top.{Holds, unneeded as other};
+ghost use Rattle.toy.specs.Top.{Holds};
+ghost use Rattle.toy.specs.Inner.Top.{unneeded as other};
 
 use crate::fault::Fault;
 use crate::place::Place;
@@ -89,7 +91,8 @@ static WORDS: [&str; 1] = table!(firsts);
     "crates/toy/src/laws.rt": """\
 //! Laws.
 ghost use Rattle.std.specs.Prelude.{◌≡◌};
-ghost use Rattle.toy.specs.Low.{count, North};
+ghost use Rattle.toy.specs.Low.{North};
+ghost use Rattle.toy.specs.Inner.Low.{count};
 
 /// Nothing is counted of this way.
 pub fn north_counts_nothing()
@@ -106,8 +109,9 @@ pub fn walk()
     "crates/toy/specs/Top.antt": """\
 -- What a run shows. It is small.
 use Rattle.std.specs.Prelude.{◌≡◌, ◌×◌, ℕ, List, map, Some, None, Option}
-use Rattle.toy.specs.Low.{Spot, Way as Road, North, turned, count, with_all, unneeded as spare}
+use Rattle.toy.specs.Low.{Spot, Way as Road, North, turned}
 use Rattle.toy.specs.Low as low
+use Rattle.toy.specs.Inner.Low.{with_all, unneeded as spare}
 use Rattle.toy.specs.declared.fault.Mood.TheVariants as mood
 use Rattle.toy.specs.declared.words.TheConstants.{WORDS}
 
@@ -118,6 +122,11 @@ pub record Holds (shown : ℕ) (spot : Spot) : Type 0 where
   pub so : turned way ≡ low.straight spot.parts.first
   pub words : map (λ unneeded. unneeded.now) WORDS ≡ []
   pub glad : mood.Glad ≡ mood.Glad
+""",
+    "crates/toy/specs/Inner/Top.antt": """\
+-- What no promise needs.
+use Rattle.std.specs.Prelude.{ℕ}
+use Rattle.toy.specs.Inner.Low.{unneeded as spare}
 
 -- a definition that nothing needs
 abbrev pub unneeded : ℕ
@@ -126,6 +135,7 @@ unneeded = spare
     "crates/toy/specs/Low.antt": """\
 -- What is below.
 use Rattle.std.specs.Prelude.{◌+◌, ℕ, Option, Some, None}
+use Rattle.toy.specs.Inner.Low.{hidden}
 
 -- a place and its parts
 pub record Spot : Type 0 where
@@ -155,8 +165,13 @@ straight n =
     shown : Option ℕ → ℕ
     shown None = n
     shown (Some hidden) = hidden
+""",
+    "crates/toy/specs/Inner/Low.antt": """\
+-- What no promise needs.
+use Rattle.std.specs.Prelude.{ℕ}
+use Rattle.toy.specs.Low.{Way, North, South}
 
--- what a name means that is bound above
+-- what a name means that is bound below
 abbrev pub hidden : ℕ
 hidden = 1
 
@@ -239,7 +254,7 @@ class Believe(InARoom):
 
     def test_a_field_that_no_type_has_is_told(self):
         self.put("crates/toy/specs/Top.antt", "spot.parts.first", "spot.parts.second")
-        self.assertEqual(["crates/toy/specs/Top.antt:12: no type has the field `second`"], self.told())
+        self.assertEqual(["crates/toy/specs/Top.antt:13: no type has the field `second`"], self.told())
 
     def test_what_a_macro_makes_rests_on_the_macros(self):
         self.assertLessEqual({"WORDS", "table"}, self.names("ok"))
@@ -263,25 +278,25 @@ class Believe(InARoom):
 
     def test_lines_are_those_of_definitions_with_their_comments(self):
         found = {it.name: (it.line, len(it.own), it.comments) for it in self.reached("ok")}
-        self.assertEqual((9, 7, 2), found["Holds"])
-        self.assertEqual((18, 4, 1), found["turned"])
-        self.assertEqual((23, 10, 1), found["straight"])
+        self.assertEqual((10, 7, 2), found["Holds"])
+        self.assertEqual((19, 4, 1), found["turned"])
+        self.assertEqual((24, 10, 1), found["straight"])
         self.assertEqual((5, 6, 2), found["Fault"])
         self.assertEqual((18, 2, 1), found["WORDS"])
 
     def test_a_name_that_leads_nowhere_is_told_with_its_place(self):
         self.put("crates/toy/specs/Low.antt", "turned North = 0", "turned North = nothing")
-        self.assertIn("crates/toy/specs/Low.antt:19: `nothing` leads nowhere", self.told())
+        self.assertIn("crates/toy/specs/Low.antt:20: `nothing` leads nowhere", self.told())
         status, said = self.main("--check")
         self.assertEqual(1, status)
-        self.assertIn("crates/toy/specs/Low.antt:19: `nothing` leads nowhere", said)
+        self.assertIn("crates/toy/specs/Low.antt:20: `nothing` leads nowhere", said)
 
     def test_an_import_that_leads_nowhere_is_told_with_the_place_of_its_use(self):
         self.put("crates/toy/specs/Low.antt", "abbrev pub straight : ℕ → ℕ\nstraight n", "abbrev pub plain : ℕ → ℕ\nplain n")
-        self.assertEqual({"crates/toy/specs/Top.antt:12: `Rattle.toy.specs.Low` has no `straight`"}, set(self.told()))
+        self.assertEqual({"crates/toy/specs/Top.antt:13: `Rattle.toy.specs.Low` has no `straight`"}, set(self.told()))
         self.put("crates/toy/specs/Low.antt")
         self.put("crates/toy/src/fault.rt", "    Glad,\n", "")
-        self.assertEqual({"crates/toy/specs/Top.antt:14: crates/toy/src declares no `fault.Mood.TheVariants.Glad`"}, set(self.told()))
+        self.assertEqual({"crates/toy/specs/Top.antt:15: crates/toy/src declares no `fault.Mood.TheVariants.Glad`"}, set(self.told()))
         self.put("crates/toy/src/fault.rt", "    Of(Cause),", "    Of(Reason),")
         self.assertIn("crates/toy/src/fault.rt:8: `Reason` leads nowhere", self.told())
 
@@ -335,14 +350,44 @@ class Believe(InARoom):
         self.assertIn(f"{RUN}: `run` has no clause `err`", self.told())
 
     def test_laws_are_functions_that_do_nothing(self):
+        count = "\nabbrev pub count : Way → ℕ\ncount North = 0\ncount (South n) = n\n"
+        self.put("crates/toy/specs/Inner/Low.antt", count)
+        placed(self.room, {"crates/toy/specs/Low.antt": FILES["crates/toy/specs/Low.antt"] + count})
+        self.put("crates/toy/src/laws.rt", "specs.Inner.Low", "specs.Low")
         text, told = page(Repository(self.room), [*LISTS, Asked("", "", [], "What is true.", [], ("toy",))])
         self.assertEqual([], told)
         self.assertIn("| 3. The laws of `toy` | one law | 1 | 3 | 0 | 0 | 27 |", text)
 
+    def test_what_no_list_has_stands_below_inner_or_rows(self):
+        placed(self.room, {"crates/toy/specs/Low.antt": FILES["crates/toy/specs/Low.antt"] + "\n-- no list has it\nabbrev pub odd : ℕ\nodd = 1\n"})
+        self.assertEqual(["crates/toy/specs/Low.antt:35: `odd` is in no list, and stands neither below Inner nor below Rows"], self.told())
+        self.put("crates/toy/specs/Low.antt", "shown (Some hidden) = hidden", "shown (Some other) = hidden")
+        self.assertEqual(["crates/toy/specs/Inner/Low.antt:6: `hidden` is in a list, and stands below Inner or Rows"], self.told())
+
+    def test_a_name_of_two_things_is_told_unless_the_glossary_has_it(self):
+        other = "-- Others.\nuse Rattle.std.specs.Prelude.{ℕ}\nuse Rattle.toy.specs.Low.{Way}\n\nabbrev pub turned : Way → ℕ\nturned way = 2\n"
+        self.put("crates/toy/specs/Top.antt", "  pub glad", "  pub two : first_of.turned way ≡ 2\n  pub glad")
+        text = Path(self.room, "crates/toy/specs/Top.antt").read_text("utf-8").replace("use Rattle.toy.specs.Low as low\n", "use Rattle.toy.specs.Low as low\nuse Rattle.toy.specs.Other as first_of\n")
+        placed(self.room, {"crates/toy/specs/Other.antt": other, "crates/toy/specs/Top.antt": text})
+        told = "`turned` stands for several things, and not in docs/glossary.md, Homonyms: crates/toy/specs/Low.antt:19, crates/toy/specs/Other.antt:5"
+        self.assertEqual([told], self.told())
+        placed(self.room, {"docs/glossary.md": "**Holds.** What holds.\n\n**Homonyms.** On purpose: `turned`.\n\n**Spot.** A `Spot`.\n"})
+        self.assertEqual([], self.told())
+        placed(self.room, {"docs/glossary.md": "**Homonyms.** On purpose: `turned` and `straight`.\n"})
+        self.assertEqual(["docs/glossary.md: `straight` of Homonyms doesn't stand for several things"], self.told())
+
+    def test_a_definition_that_is_there_twice_is_one_thing(self):
+        low = FILES["crates/toy/specs/Low.antt"]
+        again = low[low.index("-- a way, turned"):low.index("-- a number as it is")]
+        self.put("crates/toy/specs/Top.antt", "≡ low.straight", "≡ second.turned way + low.straight")
+        text = Path(self.room, "crates/toy/specs/Top.antt").read_text("utf-8").replace("use Rattle.toy.specs.Low as low\n", "use Rattle.toy.specs.Low as low\nuse Rattle.toy.specs.Again as second\n").replace("{◌≡◌,", "{◌≡◌, ◌+◌,")
+        placed(self.room, {"crates/toy/specs/Again.antt": f"-- Again.\nuse Rattle.std.specs.Prelude.{{◌+◌, ℕ}}\nuse Rattle.toy.specs.Low.{{Way, North, South}}\n\n{again}", "crates/toy/specs/Top.antt": text})
+        self.assertEqual([], self.told())
+
     def test_any_function_is_told_by_its_file(self):
         status, said = self.main("--of", RUN, "run", "err")
         self.assertEqual(0, status)
-        self.assertIn("crates/toy/specs/Low.antt:5: Spot, 3 lines\n", said)
+        self.assertIn("crates/toy/specs/Low.antt:6: Spot, 3 lines\n", said)
         self.assertEqual((1, f"{RUN}: has no function `walk`\n"), self.main("--of", RUN, "walk"))
 
 

@@ -4,6 +4,7 @@ from collections import Counter
 from typing import NamedTuple
 
 from .contracts import Contract
+from .places import confused, misplaced
 from .texts import Unresolved
 from .words import Names
 
@@ -67,7 +68,8 @@ LISTS = [
 HEAD = """\
 # What has to be believed
 
-This page is written by `tools/believe.py`. The gate fails where it differs from the sources, where a name can't be followed, and where a clause of a function is in no list.
+This page is written by `tools/believe.py`. The gate fails where it differs from the sources, where a name can't be followed, where a clause of a function is in no list, and where a definition of `specs/` that is in
+none stands neither below `Inner` nor below `Rows`.
 
 A proof says that the code does what the definitions say, and not that they say what is wanted. These are the definitions on which the clauses rest that `docs/theorems.md` shows, in the order of a reader: a file
 stands after those that use it, and each list has only what the lists before it have not. So who reads the first list knows all that `ok`, `err` and `refused` of `run_files` say.
@@ -244,7 +246,7 @@ def left(repository, lists):
                 rows[crate] += is_row(it)
                 lines[crate] += it.code
     cells = [[f"`{it}`", counts[it], rows[it], lines[it]] for it in sorted(lines)]
-    return ["## In no list", "", "Definitions of `specs/` on which no clause above rests: those of private contracts, of laws and of other calls, and worked rows with what they are made of.", "",
+    return ["## In no list", "", "Definitions of `specs/` on which no clause above rests: below `Inner` those of private contracts, of laws and of other calls, and below `Rows` worked rows with what they are made of.", "",
             *table(["Crate", "Definitions", "Worked rows", "Lines"], [*cells, ["all", counts.total(), rows.total(), lines.total()]])]
 
 
@@ -252,7 +254,9 @@ def page(repository, given):
     """The page of some lists, and what is wrong."""
     lists = Lists(repository, given)
     rows = {key: set() for key in lists.seen}
-    for file in all_specs(repository):
+    files = all_specs(repository)
+    lists.faults += [*misplaced(files, lists.seen), *confused(repository.top, files)] if not lists.faults else []
+    for file in files:
         for one in filter(is_row, file.definitions):
             try:
                 for key in repository.rests_on([one]):

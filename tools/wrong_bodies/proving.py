@@ -213,7 +213,7 @@ def judge(edit, goals):
 def judge_turned(edit, said):
     """Gives a turned definition its verdict: each row that it names has to be refused, or else each law, or some row, law or public clause."""
     crate, errors = edit.crate, {it[2]: it[1] for it in map(REFUSED.match, said.lines) if it and not NOT_OWN.search(unquoted(it[3]))}
-    rows = [name for name, file in errors.items() if file.endswith("Rows")]
+    rows = [name for name, file in errors.items() if any(it.endswith("Rows") for it in file.split("/"))]
     laws = [it[1] for it in map(NOT_PROVED.match, said.lines) if it and it[1] in crate.by_name and crate.by_name[it[1]].is_law]
     clauses = [" ".join(it) for it in clauses_among(crate, goals_of(None, said, []))[1] if it[0] not in laws]
     held = [f"the law {it}" for it in edit.laws if not edit.rows and not {body.function for body in crate.named(it)} & {*laws}]

@@ -6,8 +6,8 @@ use Rattle.ds_cp0.specs.declared.exception.ExceptionCode.{ExceptionCode}
 use Rattle.ds_core.specs.declared.event.Event.{Event}
 use Rattle.ds_core.specs.declared.event.Event.TheVariants.{Retired, Branched, Raised}
 use Rattle.ds_core.specs.Core.{Step}
-use Rattle.ds_core.specs.Core.{is_raised}
-use Rattle.ds_ahead.specs.Ahead.{Hardware, step_of, left_by, after_steps, Advances, AdvancesTo, ComesByWords}
+use Rattle.ds_core.specs.Inner.Core.{is_raised}
+use Rattle.ds_ahead.specs.Inner.Ahead.{Hardware, step_of, left_by, after_steps, Advances, AdvancesTo, ComesByWords}
 use Rattle.ds_ahead.proofs.Slots.{Slots, step_slots}
 
 pub calm_event : (e : Event) → ((code : ExceptionCode) → e ≢ Raised code) → is_raised e ≡ false

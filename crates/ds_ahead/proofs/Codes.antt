@@ -3,13 +3,13 @@ use Rattle.std.proofs.Common.{◌≡◌, ℕ, ◌+◌, ◌/◌, ◌%◌, ◌<◌
 use Rattle.std.specs.Prelude.{Ok, Some, ◌==◌}
 use Rattle.ds_isa.specs.declared.instr.Kind.TheVariants.{Fetch}
 use Rattle.ds_isa.specs.declared.instr.Size.TheVariants.{Word}
-use Rattle.ds_tlb.specs.Frames.{base_of}
+use Rattle.ds_tlb.specs.Inner.Frames.{base_of}
 use Rattle.ds_amap.specs.Map.{at_physical}
 use Rattle.ds_amap.proofs.Bases.{translate_by_base}
 use Rattle.ds_cp0.specs.System.{asid_of}
 use Rattle.ds_core.specs.Core.{CoreState}
 use Rattle.ds_core.specs.Access.{mode_of, reached}
-use Rattle.ds_ahead.specs.Code.{IsPageOf, KnowsPage}
+use Rattle.ds_ahead.specs.Inner.Code.{IsPageOf, KnowsPage}
 
 is_word : (n : ℕ) → n % 4 ≡ 0 → (n % 4 == 0) ≡ true
 is_word n is = rw is refl

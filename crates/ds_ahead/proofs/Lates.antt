@@ -12,15 +12,15 @@ use Rattle.ds_isa.specs.Meaning as effects
 use Rattle.ds_operations.specs.declared.operation.Operation.{Operation}
 use Rattle.ds_operations.specs.declared.operation.OperationKind.{OperationKind}
 use Rattle.ds_operations.specs.declared.operation.OperationKind.TheVariants as kind
-use Rattle.ds_operations.specs.Does.{does, does_by}
+use Rattle.ds_operations.specs.Inner.Does.{does, does_by}
 use Rattle.ds_amap.specs.declared.map.Physical.{Physical}
 use Rattle.ds_amap.specs.declared.map.Fault.{Fault}
 use Rattle.ds_dev.specs.declared.fault.BusError.{BusError}
 use Rattle.ds_dev.specs.Bus.{BusState}
 use Rattle.ds_core.specs.Core.{CoreState, branched}
-use Rattle.ds_core.specs.Access.{reached, aligned_load, aligned_store, kept, load_answered, loaded_from, store_answered, stored_to}
+use Rattle.ds_core.specs.Access.{reached, aligned_load, aligned_store, kept_word, load_answered, loaded_from, store_answered, stored_to}
 use Rattle.ds_core.specs.Effect.{effect}
-use Rattle.ds_ahead.specs.Placed.{IsFree}
+use Rattle.ds_ahead.specs.Inner.Placed.{IsFree}
 
 -- the processor with a load that is late
 abbrev pub with_late : CoreState → Option Late → CoreState
@@ -181,7 +181,7 @@ by_store c b l (Ok u) = refl
 
 by_stored : (c : CoreState) (b : BusState) (l : Option Late) (size : Size) (addr : ℕ) (after : ℕ → ℕ) (r : Result Physical Fault) → stored_to c b size addr after r ≡ stored_to (with_late c l) b size addr after r
 by_stored c b l size addr after (Err e) = refl
-by_stored c b l size addr after (Ok place) = by_store c (aligned_store b place.0 size (after (kept b place.0))).1 l (aligned_store b place.0 size (after (kept b place.0))).0
+by_stored c b l size addr after (Ok place) = by_store c (aligned_store b place.0 size (after (kept_word b place.0))).1 l (aligned_store b place.0 size (after (kept_word b place.0))).0
 
 -- and what its effect makes of processor and bus
 effect_alike : (c : CoreState) (b : BusState) (l : Option Late) (i : Instr) (e : Effect) → IsPlain e → effect c b i e ≡ effect (with_late c l) b i e

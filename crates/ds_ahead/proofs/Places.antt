@@ -4,7 +4,7 @@ use Rattle.std.proofs.lemmas.Bool.Decides.{nat_tests}
 use Rattle.ds_isa.specs.declared.instr.Size.{Size}
 use Rattle.ds_isa.specs.declared.instr.Size.TheVariants.{Byte, Half, Word, Part}
 use Rattle.ds_isa.specs.Access.{is_aligned}
-use Rattle.ds_dev.specs.Bus.{alignment}
+use Rattle.ds_dev.specs.Inner.Bus.{alignment}
 
 is_even : (n address : ℕ) → (address % n == 0) ≡ true → address % n ≡ 0
 is_even n address is = grind (arith, nat_tests)

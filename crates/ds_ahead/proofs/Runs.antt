@@ -8,11 +8,11 @@ use Rattle.ds_isa.specs.Instruction.{instruction_of}
 use Rattle.ds_cp0.specs.System.{is_pending}
 use Rattle.ds_operations.specs.declared.operation.Operation.{Operation}
 use Rattle.ds_operations.specs.declared.operation.OperationKind.TheVariants.{Other}
-use Rattle.ds_operations.specs.Does.{does, MeansAs}
+use Rattle.ds_operations.specs.Inner.Does.{does, MeansAs}
 use Rattle.ds_pages.specs.declared.does.Does.{Does}
-use Rattle.ds_pages.specs.Does.{single}
-use Rattle.ds_pages.specs.Places.{Fields, fields_of, fields_at}
-use Rattle.ds_pages.specs.Page.{PageState, word_at as page_word, HoldsWords}
+use Rattle.ds_pages.specs.Inner.Does.{single}
+use Rattle.ds_pages.specs.Inner.Places.{Fields, fields_of, fields_at}
+use Rattle.ds_pages.specs.Inner.Page.{KnownPageState, word_at as page_word, HoldsWords}
 use Rattle.ds_amap.specs.Map.{at_physical}
 use Rattle.ds_dev.specs.Bus.{BusState, lines}
 use Rattle.ds_core.specs.Core.{CoreState, with_tick}
@@ -20,11 +20,11 @@ use Rattle.ds_core.specs.Effect.{effect}
 use Rattle.ds_core.proofs.Fetches.{instruction_at, in_memory, kept_in_memory}
 use Rattle.ds_ahead.specs.declared.operations.Outcome.{Outcome}
 use Rattle.ds_ahead.specs.declared.operations.Outcome.TheVariants.{Done, Loaded, Branched, Called, Left}
-use Rattle.ds_ahead.specs.Placed.{Place, placed, registers_at, IsFree}
-use Rattle.ds_ahead.specs.Operations.{ComesTo, IsFetched, HasOutcome}
-use Rattle.ds_ahead.specs.Code.{KnowsPage}
-use Rattle.ds_ahead.specs.Goes.{GoesBy, KeepsFrame}
-use Rattle.ds_ahead.specs.Run.{place_in, Moves, MovesAt}
+use Rattle.ds_ahead.specs.Inner.Placed.{Place, placed, registers_at, IsFree}
+use Rattle.ds_ahead.specs.Inner.Operations.{ComesTo, IsFetched, HasOutcome}
+use Rattle.ds_ahead.specs.Inner.Code.{KnowsPage}
+use Rattle.ds_ahead.specs.Inner.Goes.{GoesBy, KeepsFrame}
+use Rattle.ds_ahead.specs.Inner.Run.{place_in, Moves, MovesAt}
 use Rattle.ds_ahead.proofs.Codes.{reaches_page}
 use Rattle.ds_ahead.proofs.Stretches.{is_step, has_outcome, knows_placed}
 use Rattle.ds_ahead.proofs.Lates.{does_free, effect_free}
@@ -81,7 +81,7 @@ goes_at out d f o c at at2 is fields goes =
     subst (λ (x : Does). GoesBy x out c f.to at at2) (sym is) (subst (λ (g : Fields). GoesBy (single g.kind) out c g.to at at2) fields goes)
 
 -- the words of a page are those of memory still where its frame is kept
-pub holds_still : (page : PageState) (memory new : List ℕ) (base : ℕ) → base % 4096 ≡ 0 → KeepsFrame base memory new → HoldsWords page memory base → HoldsWords page new base
+pub holds_still : (page : KnownPageState) (memory new : List ℕ) (base : ℕ) → base % 4096 ≡ 0 → KeepsFrame base memory new → HoldsWords page memory base → HoldsWords page new base
 holds_still page memory new base whole keeps holds = λ k inside. holds k inside ∙ sym (keeps whole k inside)
 
 apart : (own place k : ℕ) → own % 4096 ≡ 0 → k < 1024 → place - place % 4096 ≢ own → (own + 4 * k) / 4 ≢ place / 4
@@ -93,7 +93,7 @@ keeps_apart memory own place w size low other = λ whole k inside.
     word_at-with_word_apart memory place (own + 4 * k) w (omega (arith, size, low)) (apart own place k whole inside other)
 
 -- an operation of the page, at its place, whatever load is late that it doesn't read
-pub moves_in_page : (out : Outcome) (o : Operation) (page : PageState) (i vpn base : ℕ) (c : CoreState) (at : Place) (b : BusState) (c2 : CoreState) (at2 : Place) (b2 : BusState)
+pub moves_in_page : (out : Outcome) (o : Operation) (page : KnownPageState) (i vpn base : ℕ) (c : CoreState) (at : Place) (b : BusState) (c2 : CoreState) (at2 : Place) (b2 : BusState)
     → at ≡ place_in (vpn * 4096) i → i < 1024 → KnowsPage vpn base c → vpn < 2 ^ 32 → base + 4096 ≤ 2 ^ 23 → HoldsWords page b.memory base → is_pending c.system (lines b).0 (lines b).1 ≡ false
     → fields_of o ≡ fields_at page.places i → MeansAs o (instruction_of (page_word page i)) → (o.kind ≡ Other → out ≡ Left) → ComesTo out (does o at.pc (registers_at c at)) c at b c2 at2 b2
     → MovesAt page.places i out c at b c2 at2 b2
@@ -106,7 +106,7 @@ moves_in_page out o page i vpn base c at b c2 at2 b2 is inside knows some low ho
     (subst (λ (n : ℕ). IsFree l n) (sym second) free.1)
 
 -- an operation of the page in a slot
-pub outcome_in_page : (out : Outcome) (o : Operation) (page : PageState) (i vpn base : ℕ) (c : CoreState) (at : Place) (b : BusState) (c2 : CoreState) (at2 : Place) (b2 : BusState)
+pub outcome_in_page : (out : Outcome) (o : Operation) (page : KnownPageState) (i vpn base : ℕ) (c : CoreState) (at : Place) (b : BusState) (c2 : CoreState) (at2 : Place) (b2 : BusState)
     → at.pc ≡ vpn * 4096 + 4 * i → i < 1024 → KnowsPage vpn base c → vpn < 2 ^ 32 → base + 4096 ≤ 2 ^ 23 → HoldsWords page b.memory base → is_pending c.system (lines b).0 (lines b).1 ≡ false
     → MeansAs o (instruction_of (page_word page i)) → (o.kind ≡ Other → out ≡ Left) → ComesTo out (does o at.pc (registers_at c at)) c at b c2 at2 b2
     → HasOutcome out c at b c2 at2 b2

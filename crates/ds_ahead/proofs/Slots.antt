@@ -19,11 +19,11 @@ use Rattle.ds_isa.specs.declared.instr.Size.TheVariants.{Word}
 use Rattle.ds_core.specs.declared.event.Event.{Event}
 use Rattle.ds_core.specs.declared.event.Event.TheVariants.{Retired, Branched, Raised}
 use Rattle.ds_core.specs.Core.{CoreState, Step, branched, with_tick, trapped}
-use Rattle.ds_core.specs.Access.{reached, aligned_load, aligned_store, kept, load_answered, loaded_from, store_answered, stored_to}
-use Rattle.ds_core.specs.Coprocessor.{is_usable, unusable, usable, unit_of}
-use Rattle.ds_core.specs.Effect.{effect, fetch_answered, fetched_from, instruction, step}
-use Rattle.ds_core.specs.Core.{is_raised}
-use Rattle.ds_ahead.specs.Ahead.{Hardware, Advances, step_of, after_steps, owed_tick, ticks_after, ticks}
+use Rattle.ds_core.specs.Access.{reached, aligned_load, aligned_store, kept_word, load_answered, loaded_from, store_answered, stored_to}
+use Rattle.ds_core.specs.Coprocessor.{is_coprocessor_usable, unusable, usable, unit_of}
+use Rattle.ds_core.specs.Effect.{effect, fetch_answered, fetched_from, instruction_step, step}
+use Rattle.ds_core.specs.Inner.Core.{is_raised}
+use Rattle.ds_ahead.specs.Inner.Ahead.{Hardware, Advances, step_of, after_steps, owed_tick, ticks_after, ticks}
 
 -- how a step leaves the slot, by its event and where it began
 abbrev pub Slots : Event → Bool → Bool → Type 0
@@ -52,7 +52,7 @@ by_store c b (Ok u) = refl
 
 by_stored : (c : CoreState) (b : BusState) (size : Size) (addr : ℕ) (after : ℕ → ℕ) (r : Result Physical Fault) → Leaves c.slot (stored_to c b size addr after r)
 by_stored c b size addr after (Err e) = tt
-by_stored c b size addr after (Ok place) = by_store c (aligned_store b place.0 size (after (kept b place.0))).1 (aligned_store b place.0 size (after (kept b place.0))).0
+by_stored c b size addr after (Ok place) = by_store c (aligned_store b place.0 size (after (kept_word b place.0))).1 (aligned_store b place.0 size (after (kept_word b place.0))).0
 
 by_usable : (c : CoreState) (b : BusState) (i : Instr) → Leaves c.slot (usable c b i)
 by_usable c b (instr.Mfc0 rt rd) = refl
@@ -75,7 +75,7 @@ by_effect c b i (Loads size addr after) = by_loaded c b size addr after (reached
 by_effect c b i (Stores size addr after) = by_stored c b size addr after (reached c Store size addr)
 by_effect c b i (Faults code) = tt
 by_effect c b i Calls = tt
-by_effect c b i Privileged = by_use c b i (is_usable c (unit_of i))
+by_effect c b i Privileged = by_use c b i (is_coprocessor_usable c (unit_of i))
 
 by_answer : (c : CoreState) (b : BusState) (r : Result ℕ BusError) → Leaves c.slot (fetch_answered c b r)
 by_answer c b (Err e) = tt
@@ -85,7 +85,7 @@ by_fetch : (c : CoreState) (b : BusState) (r : Result Physical Fault) → Leaves
 by_fetch c b (Err e) = tt
 by_fetch c b (Ok place) = by_answer c (aligned_load b place.0 Word).1 (aligned_load b place.0 Word).0
 
-by_interrupt : (c : CoreState) (b : BusState) (asked : Bool) → Leaves c.slot (cond asked (trapped c b Interrupt) (with_tick (instruction c b)))
+by_interrupt : (c : CoreState) (b : BusState) (asked : Bool) → Leaves c.slot (cond asked (trapped c b Interrupt) (with_tick (instruction_step c b)))
 by_interrupt c b true = tt
 by_interrupt c b false = by_fetch c b (reached c Fetch Word c.pc)
 

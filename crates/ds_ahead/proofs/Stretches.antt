@@ -6,23 +6,23 @@ use Rattle.ds_cp0.specs.declared.exception.ExceptionCode.{ExceptionCode}
 use Rattle.ds_cp0.specs.declared.exception.ExceptionCode.TheVariants.{SystemCall}
 use Rattle.ds_cp0.specs.System.{System, asid_of, is_pending}
 use Rattle.ds_tlb.specs.declared.entry.Entry.{Entry}
-use Rattle.ds_tlb.specs.Frames.{base_of}
+use Rattle.ds_tlb.specs.Inner.Frames.{base_of}
 use Rattle.ds_isa.specs.Meaning.{Effect, meaning}
 use Rattle.ds_operations.specs.declared.operation.Operation.{Operation}
 use Rattle.ds_operations.specs.declared.operation.OperationKind.TheVariants.{Other}
-use Rattle.ds_operations.specs.Does.{does}
+use Rattle.ds_operations.specs.Inner.Does.{does}
 use Rattle.ds_dev.specs.Bus.{BusState, lines}
 use Rattle.ds_core.specs.declared.event.Event.{Event}
 use Rattle.ds_ahead.specs.declared.operations.Outcome.{Outcome}
 use Rattle.ds_ahead.specs.declared.operations.Outcome.TheVariants.{Done, Loaded, Branched, Called, Left}
 use Rattle.ds_core.specs.Core.{CoreState, with_tick, trapped}
-use Rattle.ds_core.specs.Effect.{effect, instruction, step}
-use Rattle.ds_ahead.specs.Operations.{ComesTo, IsFetched, IsCalled, HasOutcome, StaysCalm, Steps, LeadsOn}
-use Rattle.ds_ahead.specs.Placed.{Place, placed, registers_at}
-use Rattle.ds_ahead.specs.Code.{IsPageOf, KnowsPage}
-use Rattle.ds_core.specs.Coprocessor.{only_devices_interrupt}
-use Rattle.ds_core.specs.Core.{is_raised}
-use Rattle.ds_ahead.specs.Ahead.{Hardware, hardware_of, after_steps, Advances, AdvancesTo}
+use Rattle.ds_core.specs.Effect.{effect, instruction_step, step}
+use Rattle.ds_ahead.specs.Inner.Operations.{ComesTo, IsFetched, IsCalled, HasOutcome, StaysCalm, Steps, LeadsOn}
+use Rattle.ds_ahead.specs.Inner.Placed.{Place, placed, registers_at}
+use Rattle.ds_ahead.specs.Inner.Code.{IsPageOf, KnowsPage}
+use Rattle.ds_core.specs.Inner.Coprocessor.{only_devices_interrupt}
+use Rattle.ds_core.specs.Inner.Core.{is_raised}
+use Rattle.ds_ahead.specs.Inner.Ahead.{Hardware, hardware_of, after_steps, Advances, AdvancesTo}
 use Rattle.ds_ahead.proofs.Advances.{advances_on, comes_on, advances_join, after_both}
 
 -- where no interrupt is to be taken the effect of an operation that does what the instruction means is the step
@@ -30,7 +30,7 @@ pub is_step : (o : Operation) (c : CoreState) (b : BusState) → is_pending c.sy
     → with_tick (effect c b fetched.instr (does o c.pc c.registers)) ≡ step c b
 is_step o c b calm fetched some =
     let means : does o c.pc c.registers ≡ meaning fetched.instr c.pc c.registers = fetched.means some c.pc c.registers in
-    let whole : with_tick (instruction c b) ≡ step c b = rw calm refl in
+    let whole : with_tick (instruction_step c b) ≡ step c b = rw calm refl in
     ap (λ (e : Effect). with_tick (effect c b fetched.instr e)) means ∙ (ap with_tick fetched.lies ∙ whole)
 
 -- the outcome of an operation is how the step goes

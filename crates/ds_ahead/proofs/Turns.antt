@@ -7,14 +7,15 @@ use Rattle.ds_isa.specs.declared.instr.Late.{Late}
 use Rattle.ds_pages.specs.declared.does.Does.{Does}
 use Rattle.ds_pages.specs.declared.places.Places.{Places}
 use Rattle.ds_pages.specs.declared.does.Does.TheVariants as does
-use Rattle.ds_pages.specs.Does.{single, steps, is_known, is_end, has_slot, is_load}
+use Rattle.ds_pages.specs.Inner.Does.{single, steps, is_known, is_end, has_slot, is_load}
 use Rattle.ds_operations.specs.declared.operation.OperationKind.{OperationKind}
 use Rattle.ds_operations.specs.declared.operation.OperationKind.TheVariants.{Other}
-use Rattle.ds_pages.specs.Places.{fields_at, does_at, length_at, IsFreeAt}
+use Rattle.ds_pages.specs.Inner.Places.{fields_at, does_at, length_at, IsFreeAt}
 use Rattle.ds_dev.specs.Bus.{BusState}
 use Rattle.ds_core.specs.declared.event.Event.{Event}
 use Rattle.ds_core.specs.declared.event.Event.TheVariants as event
-use Rattle.ds_core.specs.Core.{CoreState, is_raised}
+use Rattle.ds_core.specs.Core.{CoreState}
+use Rattle.ds_core.specs.Inner.Core.{is_raised}
 use Rattle.ds_ahead.specs.declared.operations.Outcome.{Outcome}
 use Rattle.ds_ahead.specs.declared.operations.Outcome.TheVariants.{Done, Loaded, Branched, Called, Left}
 use Rattle.ds_ahead.specs.declared.here.Here.{Here}
@@ -22,11 +23,11 @@ use Rattle.ds_ahead.specs.declared.here.Way.{Way}
 use Rattle.ds_ahead.specs.declared.here.Way.TheVariants.{On, Out, Leaves, Calls, Away}
 use Rattle.ds_ahead.specs.declared.next.Next.{Next}
 use Rattle.ds_ahead.specs.declared.next.Next.TheVariants.{Call, Plain}
-use Rattle.ds_ahead.specs.Ahead.{Hardware, after_steps, Advances}
-use Rattle.ds_ahead.specs.Placed.{Place, placed, at_next, at_slot}
-use Rattle.ds_ahead.specs.Operations.{HasOutcome, StaysCalm, Steps, IsCalled, LeadsOn}
-use Rattle.ds_ahead.specs.Goes.{at_load, GoesAs, GoesBy}
-use Rattle.ds_ahead.specs.Run.{place_in, slot_in, late_here, position_here, IsFreeOf, StandsIn, IsFreeHere, Moves, MovesAt, left_here, Lands, Ran, next_by, ComesOut}
+use Rattle.ds_ahead.specs.Inner.Ahead.{Hardware, after_steps, Advances}
+use Rattle.ds_ahead.specs.Inner.Placed.{Place, placed, at_next, at_slot}
+use Rattle.ds_ahead.specs.Inner.Operations.{HasOutcome, StaysCalm, Steps, IsCalled, LeadsOn}
+use Rattle.ds_ahead.specs.Inner.Goes.{at_load, GoesAs, GoesBy}
+use Rattle.ds_ahead.specs.Inner.Run.{place_in, slot_in, late_here, position_here, IsFreeOf, StandsIn, IsFreeHere, Moves, MovesAt, left_here, Lands, Ran, next_by, ComesOut}
 use Rattle.ds_ahead.proofs.Stretches.{leads_nowhere, leads_on, leads_both}
 
 -- Where what was done leaves its position.

@@ -1,7 +1,1 @@
-pub mod Ahead
-pub mod Code
-pub mod Placed
-pub mod Operations
-pub mod Goes
-pub mod Run
-pub mod Ride
+pub mod Inner

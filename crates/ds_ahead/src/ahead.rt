@@ -4,7 +4,7 @@ ghost use Rattle.ds_cp0.specs.declared.exception.ExceptionCode.TheVariants.{Syst
 ghost use Rattle.ds_dev.specs.Bus.{BusState};
 ghost use Rattle.ds_core.specs.Core.{with_tick, trapped};
 ghost use Rattle.ds_core.specs.Effect.{step};
-ghost use Rattle.ds_ahead.specs.Ahead.{hardware_of, after_steps, Advances, AdvancesTo, ComesByWords, ticks, owed_tick};
+ghost use Rattle.ds_ahead.specs.Inner.Ahead.{hardware_of, after_steps, Advances, AdvancesTo, ComesByWords, ticks, owed_tick};
 
 use crate::next::Next;
 use crate::ride::Ride;
@@ -125,7 +125,7 @@ fn walk_and_step<L: Lookaside>(core: &mut Core<L>, bus: &mut Bus, limit: u32) ->
 /// found a call or left what comes next. Where none made way, one step is taken at least; `left` at
 /// most are.
 #[inline(always)]
-pub fn go_on<L: Lookaside>(
+pub fn go_past_ride<L: Lookaside>(
     core: &mut Core<L>,
     bus: &mut Bus,
     next: Next,
@@ -233,7 +233,7 @@ fn stretch_and_step<L: Lookaside>(core: &mut Core<L>, bus: &mut Bus, limit: u32)
 {
     let mut left = limit;
     let next = ride(core, bus, &mut left);
-    let rest = go_on(core, bus, next, left < limit, left);
+    let rest = go_past_ride(core, bus, next, left < limit, left);
     Ahead {
         steps: limit - left + rest.steps,
         raised: rest.raised,

@@ -3,16 +3,16 @@ ghost use Rattle.std.specs.Prelude.{◌≡◌, ◌≢◌, ◌+◌, ◌*◌, ◌<
 ghost use Rattle.ds_isa.specs.Registers.{read, settled};
 ghost use Rattle.ds_isa.specs.Meaning.{Branches};
 ghost use Rattle.ds_cp0.specs.System.{is_pending};
-ghost use Rattle.ds_operations.specs.Does.{does, branches_by, target_by};
+ghost use Rattle.ds_operations.specs.Inner.Does.{does, branches_by, target_by};
 ghost use Rattle.ds_dev.specs.Bus.{lines};
-ghost use Rattle.ds_pages.specs.Does.{single, is_branch};
-ghost use Rattle.ds_pages.specs.Places.{does_at, fields_at};
-ghost use Rattle.ds_pages.specs.Page.{HoldsWords};
-ghost use Rattle.ds_ahead.specs.Code.{KnowsPage};
-ghost use Rattle.ds_ahead.specs.Placed.{registers_at, at_slot};
-ghost use Rattle.ds_ahead.specs.Operations.{ComesTo};
-ghost use Rattle.ds_ahead.specs.Goes.{GoesBy};
-ghost use Rattle.ds_ahead.specs.Run.{place_in, MovesAt};
+ghost use Rattle.ds_pages.specs.Inner.Does.{single, is_branch};
+ghost use Rattle.ds_pages.specs.Inner.Places.{does_at, fields_at};
+ghost use Rattle.ds_pages.specs.Inner.Page.{HoldsWords};
+ghost use Rattle.ds_ahead.specs.Inner.Code.{KnowsPage};
+ghost use Rattle.ds_ahead.specs.Inner.Placed.{registers_at, at_slot};
+ghost use Rattle.ds_ahead.specs.Inner.Operations.{ComesTo};
+ghost use Rattle.ds_ahead.specs.Inner.Goes.{GoesBy};
+ghost use Rattle.ds_ahead.specs.Inner.Run.{place_in, MovesAt};
 ghost use Rattle.ds_ahead.specs.declared.operations.Outcome.{Outcome};
 
 use crate::code::CodePage;

@@ -1,10 +1,10 @@
 //! The page whose instructions a stretch goes through, remembered while nothing can change it.
 ghost use Rattle.std.specs.Prelude.{◌≡◌, ◌+◌, ◌*◌, ◌/◌, ◌%◌, ◌<◌, ◌≤◌, ◌^◌, IfSome, true, false};
 ghost use Rattle.ds_cp0.specs.System.{asid_of};
-ghost use Rattle.ds_core.specs.Coprocessor.{only_devices_interrupt};
-ghost use Rattle.ds_ahead.specs.Code.{KnowsPage};
+ghost use Rattle.ds_core.specs.Inner.Coprocessor.{only_devices_interrupt};
+ghost use Rattle.ds_ahead.specs.Inner.Code.{KnowsPage};
 
-use ds_amap::Access;
+use ds_amap::Kind;
 use ds_core::Core;
 use ds_isa::Size;
 use ds_tlb::Lookaside;
@@ -77,7 +77,7 @@ pub(crate) fn code_page<L: Lookaside>(core: &Core<L>) -> CodePage
     if !only_devices_interrupt(core) {
         return CodePage::none(asid);
     }
-    let Some(place) = core.tlb.place(Access::Fetch, Size::Word, core.pc, asid) else {
+    let Some(place) = core.tlb.place(Kind::Fetch, Size::Word, core.pc, asid) else {
         return CodePage::none(asid);
     };
     let vpn = u64::from(core.pc >> 12);
@@ -95,5 +95,5 @@ pub(crate) fn code_page<L: Lookaside>(core: &Core<L>) -> CodePage
 fn only_devices_interrupt<L: Lookaside>(core: &Core<L>) -> bool
     ensures { result ≡ only_devices_interrupt core.now }
 {
-    !core.is_usable(0) && !core.cp0.pending(false, false)
+    !core.is_coprocessor_usable(0) && !core.cp0.pending(false, false)
 }

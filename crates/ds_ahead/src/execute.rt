@@ -2,12 +2,12 @@
 ghost use Rattle.std.specs.Prelude.{◌≡◌, slice_index};
 ghost use Rattle.ds_isa.specs.Registers.{read};
 ghost use Rattle.ds_operations.specs.declared.operation.OperationKind.TheVariants as kinds;
-ghost use Rattle.ds_operations.specs.Does.{does};
-ghost use Rattle.ds_pages.specs.Does.{single};
+ghost use Rattle.ds_operations.specs.Inner.Does.{does};
+ghost use Rattle.ds_pages.specs.Inner.Does.{single};
 ghost use Rattle.ds_cp0.specs.System.{asid_of};
-ghost use Rattle.ds_ahead.specs.Placed.{registers_at};
-ghost use Rattle.ds_ahead.specs.Operations.{ComesTo, StaysCalm};
-ghost use Rattle.ds_ahead.specs.Goes.{GoesBy, KeepsFrame};
+ghost use Rattle.ds_ahead.specs.Inner.Placed.{registers_at};
+ghost use Rattle.ds_ahead.specs.Inner.Operations.{ComesTo, StaysCalm};
+ghost use Rattle.ds_ahead.specs.Inner.Goes.{GoesBy, KeepsFrame};
 
 use crate::operate::operate;
 use crate::operations::{
@@ -107,7 +107,7 @@ impl Execute for Nothing {
         own: u32,
         asid: u8,
     ) -> Outcome {
-        at.go_on()
+        at.go_to_next()
     }
 }
 

@@ -1,6 +1,6 @@
 //! Where a run stands in its page, and how it goes on.
 ghost use Rattle.std.specs.Prelude.{◌≡◌, ◌≢◌, ◌+◌, ◌≤◌, ◌<◌, ◌^◌, true, false, IfSome};
-ghost use Rattle.ds_ahead.specs.Run.{place_in, position_here, StandsIn};
+ghost use Rattle.ds_ahead.specs.Inner.Run.{place_in, position_here, StandsIn};
 
 use crate::position::Position;
 use ds_isa::Late;
@@ -108,7 +108,7 @@ impl Here {
 
     /// On to the next place.
     #[inline(always)]
-    pub(crate) fn go_on(&mut self)
+    pub(crate) fn go_to_next(&mut self)
         requires { self.old.place < 1024 }
         ensures { self.new ≡ record self.old { place = self.old.place + 1 } }
     {

@@ -1,6 +1,6 @@
 //! Laws of many steps. Each is the contract of a function that does nothing.
 ghost use Rattle.std.specs.Prelude.{◌≡◌, ◌+◌, ℕ};
-ghost use Rattle.ds_ahead.specs.Ahead.{Hardware, Advances, ticks, owed_tick};
+ghost use Rattle.ds_ahead.specs.Inner.Ahead.{Hardware, Advances, ticks, owed_tick};
 
 /// So many calm steps, and so many more, are calm steps.
 pub fn advances_join()

@@ -17,6 +17,6 @@ mod run;
 mod stretch;
 mod turn;
 
-pub use ahead::{Ahead, go_on, run_ahead};
+pub use ahead::{Ahead, go_past_ride, run_ahead};
 pub use next::Next;
 pub use ride::Ride;

@@ -1,6 +1,6 @@
 //! What comes after a stretch.
 ghost use Rattle.std.specs.Prelude.{◌≡◌, ◌≢◌, nat_lt, true, false};
-ghost use Rattle.ds_ahead.specs.Run.{next_by};
+ghost use Rattle.ds_ahead.specs.Inner.Run.{next_by};
 
 /// What comes after a stretch.
 #[derive(Clone, Copy)]

@@ -1,12 +1,12 @@
 //! What each kind of operation does.
 ghost use Rattle.std.specs.Prelude.{◌≡◌, slice_index};
 ghost use Rattle.ds_isa.specs.Registers.{read};
-ghost use Rattle.ds_operations.specs.Does.{does};
-ghost use Rattle.ds_pages.specs.Does.{single};
+ghost use Rattle.ds_operations.specs.Inner.Does.{does};
+ghost use Rattle.ds_pages.specs.Inner.Does.{single};
 ghost use Rattle.ds_cp0.specs.System.{asid_of};
-ghost use Rattle.ds_ahead.specs.Placed.{registers_at};
-ghost use Rattle.ds_ahead.specs.Operations.{ComesTo, StaysCalm};
-ghost use Rattle.ds_ahead.specs.Goes.{GoesBy, KeepsFrame};
+ghost use Rattle.ds_ahead.specs.Inner.Placed.{registers_at};
+ghost use Rattle.ds_ahead.specs.Inner.Operations.{ComesTo, StaysCalm};
+ghost use Rattle.ds_ahead.specs.Inner.Goes.{GoesBy, KeepsFrame};
 
 use crate::operations::{
     Outcome, address_by, general, in_region, jump, jump_and_link, leave_byte, leave_half,
@@ -58,7 +58,7 @@ pub(crate) fn operate<L: Lookaside, const WAY: usize>(
         immediate,
     } = operation;
     match kind {
-        OperationKind::Nothing => at.go_on(),
+        OperationKind::Nothing => at.go_to_next(),
         OperationKind::Sll => {
             put(
                 core,

@@ -1,22 +1,23 @@
 //! One operation of a stretch: what seldom comes is left to the plain step.
 ghost use Rattle.std.specs.Prelude.{◌≡◌, ◌≢◌, ◌+◌, ◌-◌, ◌*◌, ◌%◌, ◌<◌, ◌≤◌, ◌^◌, slice_index, Ok, IfSome};
 ghost use Rattle.ds_isa.specs.Registers.{written, loaded, settled};
-ghost use Rattle.ds_isa.specs.Meaning.{written_or_trap, loads, stores, with_hi_lo, behind_slot, Branches};
+ghost use Rattle.ds_isa.specs.Meaning.{written_or_trap, loads, stores, with_hi_lo, past_slot, Branches};
 ghost use Rattle.ds_isa.specs.declared.instr.Size.TheVariants as size;
 ghost use Rattle.ds_isa.specs.declared.instr.Kind.TheVariants.{Store};
 ghost use Rattle.ds_word.specs.Word.{word, bits, sign_extended};
 ghost use Rattle.ds_word.specs.Merge.{with_bits};
 ghost use Rattle.ds_word.specs.Bytes.{word_at, with_word};
-ghost use Rattle.ds_operations.specs.Does.{target_by, in_region};
-ghost use Rattle.ds_dev.specs.Bus.{alignment, lines};
+ghost use Rattle.ds_operations.specs.Inner.Does.{target_by, in_region};
+ghost use Rattle.ds_dev.specs.Bus.{lines};
+ghost use Rattle.ds_dev.specs.Inner.Bus.{alignment};
 ghost use Rattle.ds_cp0.specs.System.{asid_of};
 ghost use Rattle.ds_core.specs.Access.{reached};
-ghost use Rattle.ds_ahead.specs.Placed.{registers_at, with_general, at_next};
-ghost use Rattle.ds_ahead.specs.Goes.{at_load, GoesOn, GoesLate, GoesAway, KeepsFrame};
-ghost use Rattle.ds_ahead.specs.Operations.{ComesTo};
+ghost use Rattle.ds_ahead.specs.Inner.Placed.{registers_at, with_general, at_next};
+ghost use Rattle.ds_ahead.specs.Inner.Goes.{at_load, GoesOn, GoesLate, GoesAway, KeepsFrame};
+ghost use Rattle.ds_ahead.specs.Inner.Operations.{ComesTo};
 
 use crate::position::Position;
-use ds_amap::{Access, Physical, recalled_aligned};
+use ds_amap::{Kind, Physical, recalled_aligned};
 use ds_core::{Core, after_slot};
 use ds_dev::Bus;
 use ds_isa::{Late, Size};
@@ -85,7 +86,7 @@ pub(crate) fn put<L: Lookaside>(
     ensures at { at.new ≡ at_next at.old }
 {
     core.registers[to.number() as usize] = value;
-    at.go_on()
+    at.go_to_next()
 }
 
 /// The operation is done, and a register loaded.
@@ -105,7 +106,7 @@ pub(crate) fn put_late<L: Lookaside>(
     let number = to.number();
     let old = core.registers[number as usize];
     core.registers[number as usize] = value;
-    at.go_on();
+    at.go_to_next();
     at.late = Some(Late {
         register: number,
         old,
@@ -165,7 +166,7 @@ pub(crate) fn jump_and_link<L: Lookaside>(
     bus: &Bus,
 ) -> Outcome
     ensures comes { ComesTo result
-        (Branches (written (registers_at core.old at.old) to.number (behind_slot at.old.pc)) target)
+        (Branches (written (registers_at core.old at.old) to.number (past_slot at.old.pc)) target)
         core.old at.old bus.now core.new at.new bus.now }
     ensures system { core.new.system ≡ core.old.system }
     ensures entries { core.new.entries ≡ core.old.entries }
@@ -195,7 +196,7 @@ pub(crate) fn put_hi_lo<L: Lookaside>(
 {
     core.hi = hi;
     core.lo = lo;
-    at.go_on()
+    at.go_to_next()
 }
 
 /// The address of a load or a store.
@@ -212,7 +213,7 @@ pub(crate) fn address_by<L: Lookaside>(core: &Core<L>, base: Register, immediate
 #[tactic(auto, using(crate::proofs::Places::suits_place))]
 pub(crate) fn remembered<L: Lookaside>(
     core: &Core<L>,
-    access: Access,
+    access: Kind,
     size: Size,
     address: u32,
     asid: u8,
@@ -243,7 +244,7 @@ fn place_apart<L: Lookaside>(
     ensures offset { IfSome result (λ place. place.0 % 4 ≡ address % 4) }
     ensures apart { IfSome result (λ place. place.0 - place.0 % 4096 ≢ own) }
 {
-    let Physical(place) = remembered(core, Access::Store, size, address, asid)?;
+    let Physical(place) = remembered(core, Kind::Store, size, address, asid)?;
     if place / PAGE == own / PAGE {
         return None;
     }
@@ -352,7 +353,7 @@ pub(crate) fn take_byte<L: Lookaside>(
     ensures entries { core.new.entries ≡ core.old.entries }
     ensures goes { GoesLate result core.old to.number at.old at.new }
 {
-    match remembered(core, Access::Load, Size::Byte, address, asid) {
+    match remembered(core, Kind::Load, Size::Byte, address, asid) {
         Some(Physical(place)) => { put_late(core, to, sign8(byte_at(bus, place, address)), at) }
         None => Outcome::Left,
     }
@@ -375,7 +376,7 @@ pub(crate) fn take_byte_unsigned<L: Lookaside>(
     ensures entries { core.new.entries ≡ core.old.entries }
     ensures goes { GoesLate result core.old to.number at.old at.new }
 {
-    match remembered(core, Access::Load, Size::Byte, address, asid) {
+    match remembered(core, Kind::Load, Size::Byte, address, asid) {
         Some(Physical(place)) => { put_late(core, to, u32::from(byte_at(bus, place, address)), at) }
         None => Outcome::Left,
     }
@@ -398,7 +399,7 @@ pub(crate) fn take_half<L: Lookaside>(
     ensures entries { core.new.entries ≡ core.old.entries }
     ensures goes { GoesLate result core.old to.number at.old at.new }
 {
-    match remembered(core, Access::Load, Size::Half, address, asid) {
+    match remembered(core, Kind::Load, Size::Half, address, asid) {
         Some(Physical(place)) => { put_late(core, to, sign16(half_at(bus, place, address)), at) }
         None => Outcome::Left,
     }
@@ -421,7 +422,7 @@ pub(crate) fn take_half_unsigned<L: Lookaside>(
     ensures entries { core.new.entries ≡ core.old.entries }
     ensures goes { GoesLate result core.old to.number at.old at.new }
 {
-    match remembered(core, Access::Load, Size::Half, address, asid) {
+    match remembered(core, Kind::Load, Size::Half, address, asid) {
         Some(Physical(place)) => { put_late(core, to, u32::from(half_at(bus, place, address)), at) }
         None => Outcome::Left,
     }
@@ -444,7 +445,7 @@ pub(crate) fn take_word<L: Lookaside>(
     ensures entries { core.new.entries ≡ core.old.entries }
     ensures goes { GoesLate result core.old to.number at.old at.new }
 {
-    match remembered(core, Access::Load, Size::Word, address, asid) {
+    match remembered(core, Kind::Load, Size::Word, address, asid) {
         Some(Physical(place)) => put_late(core, to, bus.aligned_word(place), at),
         None => Outcome::Left,
     }
@@ -473,7 +474,7 @@ pub(crate) fn leave_byte<L: Lookaside>(
     match place_apart(core, Size::Byte, address, own, asid) {
         Some(Physical(place)) => {
             put_byte_apart(bus, place, address, value, own);
-            at.go_on()
+            at.go_to_next()
         }
         None => Outcome::Left,
     }
@@ -502,7 +503,7 @@ pub(crate) fn leave_half<L: Lookaside>(
     match place_apart(core, Size::Half, address, own, asid) {
         Some(Physical(place)) => {
             put_half_apart(bus, place, address, value, own);
-            at.go_on()
+            at.go_to_next()
         }
         None => Outcome::Left,
     }
@@ -531,7 +532,7 @@ pub(crate) fn leave_word<L: Lookaside>(
     match place_apart(core, Size::Word, address, own, asid) {
         Some(Physical(place)) => {
             put_word_apart(bus, place, value, own);
-            at.go_on()
+            at.go_to_next()
         }
         None => Outcome::Left,
     }

@@ -1,6 +1,6 @@
 //! Where a stretch stands: what each step changes is kept beside the processor, and put back after the last.
 ghost use Rattle.std.specs.Prelude.{◌≡◌, false};
-ghost use Rattle.ds_ahead.specs.Placed.{placed, at_next, at_slot, IsFree};
+ghost use Rattle.ds_ahead.specs.Inner.Placed.{placed, at_next, at_slot, IsFree};
 
 use crate::operations::Outcome;
 use ds_core::Core;
@@ -24,7 +24,7 @@ pub(crate) struct Position {
 impl Model for Position {
     ghost use Rattle.std.specs.Prelude.{◌<◌};
     ghost use Rattle.std.specs.Option.{ForSome};
-    ghost use Rattle.ds_ahead.specs.Placed.{Place};
+    ghost use Rattle.ds_ahead.specs.Inner.Placed.{Place};
 
     ghost Value = { Place };
 
@@ -36,7 +36,7 @@ impl Model for Position {
 impl Position {
     /// Goes on after the operation, which is done.
     #[inline(always)]
-    pub(crate) fn go_on(&mut self) -> Outcome
+    pub(crate) fn go_to_next(&mut self) -> Outcome
         ensures done { result ≡ Outcome.Done }
         ensures at { self.new ≡ at_next self.old }
     {

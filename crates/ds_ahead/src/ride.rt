@@ -4,8 +4,8 @@ ghost use Rattle.ds_cp0.specs.declared.exception.ExceptionCode.TheVariants.{Syst
 ghost use Rattle.ds_dev.specs.Bus.{BusState};
 ghost use Rattle.ds_core.specs.Core.{with_tick, trapped};
 ghost use Rattle.ds_core.specs.Effect.{step};
-ghost use Rattle.ds_ahead.specs.Ahead.{hardware_of, after_steps, Advances};
-ghost use Rattle.ds_ahead.specs.Ride.{ridden, Rides, IsPlaced, MayGoOn, behind_answer};
+ghost use Rattle.ds_ahead.specs.Inner.Ahead.{hardware_of, after_steps, Advances};
+ghost use Rattle.ds_ahead.specs.Inner.Ride.{ridden, Rides, IsPlaced, MayGoOn, after_answer};
 
 use crate::code::{CodePage, code_page};
 use crate::here::place;
@@ -135,23 +135,23 @@ impl Ride {
     /// Goes on behind a call, with an answer in register 2, as a processor that left for the call and
     /// came back: registers 26 and 27 are lost to the refill.
     #[inline(always)]
-    pub fn go_behind_call<L: Lookaside>(&mut self, core: &mut Core<L>, answer: u32)
+    pub fn go_after_call<L: Lookaside>(&mut self, core: &mut Core<L>, answer: u32)
         requires low { self.old.first < 2 ^ 31 }
         requires may { MayGoOn self.old }
         requires some { 0 < self.old.left }
         requires within { self.old.left ≤ self.old.all }
         ensures core { ridden self.new core.new
-            ≡ behind_answer (ridden self.old core.old) answer }
+            ≡ after_answer (ridden self.old core.old) answer }
         ensures rides { (bus : BusState) → Rides self.old core.old bus
             → Rides self.new core.new bus }
         ensures placed { IsPlaced self.new }
         ensures left { self.new.left + 1 ≡ self.old.left }
     {
         let offset = wrapping_difference(self.at.pc, self.first);
-        let behind = self.at.pc + 4;
+        let afterwards = self.at.pc + 4;
         core.registers[2] = answer;
         core.registers[26] = 0;
-        core.registers[27] = behind;
+        core.registers[27] = afterwards;
         self.place = offset as usize / 4 + 1;
         self.at = place(self.first, self.place);
         self.left -= 1;

@@ -3,13 +3,13 @@ ghost use Rattle.std.specs.Prelude.{◌≡◌, ◌≢◌, ◌+◌, ◌*◌, ◌-
 ghost use Rattle.ds_word.specs.Word.{word};
 ghost use Rattle.ds_cp0.specs.System.{asid_of, is_pending};
 ghost use Rattle.ds_dev.specs.Bus.{lines};
-ghost use Rattle.ds_pages.specs.Does.{is_known, single};
-ghost use Rattle.ds_pages.specs.Places.{does_at, fields_at, length_at};
-ghost use Rattle.ds_pages.specs.Page.{HoldsWords};
-ghost use Rattle.ds_ahead.specs.Code.{KnowsPage};
-ghost use Rattle.ds_ahead.specs.Operations.{IsCalled, HasOutcome, StaysCalm, LeadsOn};
-ghost use Rattle.ds_ahead.specs.Goes.{GoesBy};
-ghost use Rattle.ds_ahead.specs.Run.{place_in, slot_in, position_here, left_here, next_by, IsFreeOf, StandsIn, IsFreeHere, MovesAt, Begins, Lands, Ran, ComesOut};
+ghost use Rattle.ds_pages.specs.Inner.Does.{is_known, single};
+ghost use Rattle.ds_pages.specs.Inner.Places.{does_at, fields_at, length_at};
+ghost use Rattle.ds_pages.specs.Inner.Page.{HoldsWords};
+ghost use Rattle.ds_ahead.specs.Inner.Code.{KnowsPage};
+ghost use Rattle.ds_ahead.specs.Inner.Operations.{IsCalled, HasOutcome, StaysCalm, LeadsOn};
+ghost use Rattle.ds_ahead.specs.Inner.Goes.{GoesBy};
+ghost use Rattle.ds_ahead.specs.Inner.Run.{place_in, slot_in, position_here, left_here, next_by, IsFreeOf, StandsIn, IsFreeHere, MovesAt, BeginsBlock, Lands, Ran, ComesOut};
 
 use crate::branch::do_branch;
 use crate::code::CodePage;
@@ -171,7 +171,7 @@ fn do_slot_operation<L: Lookaside, K: Execute>(
 /// The place of an address in the page that begins at `first`, or the one after its last; of other
 /// addresses no such place.
 #[inline(always)]
-fn place_of(first: u32, target: u32) -> usize
+fn place_in_page(first: u32, target: u32) -> usize
     requires { first < 2 ^ 31 }
     ensures { result ≤ 1024 → target ≡ first + 4 * result }
 {
@@ -218,7 +218,7 @@ pub(crate) fn do_at<L: Lookaside, K: Execute>(
         return Outcome::Branched;
     }
     let outcome = do_operation(core, page, i, kind, at, bus, code);
-    *to = place_of(first, at.next);
+    *to = place_in_page(first, at.next);
     outcome
 }
 
@@ -236,7 +236,7 @@ fn given_back(rest: u32, length: u32) -> u32
 #[inline(always)]
 fn begin(page: &Page, i: usize, rest: &mut u32) -> Way
     requires { i ≤ 1024 }
-    ensures { Begins result (length_at page.now.places i) rest.old rest.new }
+    ensures { BeginsBlock result (length_at page.now.places i) rest.old rest.new }
 {
     let length = page.length(i);
     let (less, over) = rest.overflowing_sub(length);
@@ -317,7 +317,7 @@ fn land_after_load(
 #[inline(always)]
 fn begin_after_load(page: &Page, i: usize, at: &Position, rest: &mut u32) -> Way
     requires { i ≤ 1024 }
-    ensures begins { Begins result (length_at page.now.places i) rest.old rest.new }
+    ensures begins { BeginsBlock result (length_at page.now.places i) rest.old rest.new }
     ensures free { result ≡ Way.On → i < 1024 → IsFreeOf at.now.late page.now.places i }
 {
     if is_awaited(page, i, at) {

@@ -6,11 +6,11 @@ ghost use Rattle.ds_cp0.specs.System.{asid_of, is_pending};
 ghost use Rattle.ds_dev.specs.Bus.{lines};
 ghost use Rattle.ds_cp0.specs.declared.exception.ExceptionCode.TheVariants.{SystemCall};
 ghost use Rattle.ds_core.specs.Core.{with_tick, trapped};
-ghost use Rattle.ds_ahead.specs.Code.{KnowsPage};
-ghost use Rattle.ds_ahead.specs.Placed.{placed};
-ghost use Rattle.ds_ahead.specs.Operations.{IsFetched, IsCalled, HasOutcome, StaysCalm, LeadsOn};
+ghost use Rattle.ds_ahead.specs.Inner.Code.{KnowsPage};
+ghost use Rattle.ds_ahead.specs.Inner.Placed.{placed};
+ghost use Rattle.ds_ahead.specs.Inner.Operations.{IsFetched, IsCalled, HasOutcome, StaysCalm, LeadsOn};
 ghost use Rattle.ds_core.specs.Effect.{step};
-ghost use Rattle.ds_ahead.specs.Ahead.{hardware_of, after_steps, Advances};
+ghost use Rattle.ds_ahead.specs.Inner.Ahead.{hardware_of, after_steps, Advances};
 
 use crate::code::{CodePage, code_page};
 use crate::next::Next;

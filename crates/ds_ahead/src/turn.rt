@@ -1,11 +1,11 @@
 //! A turn of a run: an operation where it stands, that and the next one, or a branch with its slot.
 ghost use Rattle.std.specs.Prelude.{◌≡◌, ◌≢◌, ◌+◌, ◌*◌, ◌<◌, ◌≤◌, ◌^◌, true, false, IfSome};
-ghost use Rattle.ds_pages.specs.Does.{has_slot, is_end, single};
-ghost use Rattle.ds_pages.specs.Turn.{first_of};
-ghost use Rattle.ds_pages.specs.Places.{does_at};
-ghost use Rattle.ds_pages.specs.Page.{HoldsWords};
-ghost use Rattle.ds_ahead.specs.Operations.{StaysCalm};
-ghost use Rattle.ds_ahead.specs.Run.{position_here, left_here, StandsIn, IsFreeHere, IsAlone, MayGo, Ran};
+ghost use Rattle.ds_pages.specs.Inner.Does.{has_slot, is_end, single};
+ghost use Rattle.ds_pages.specs.Inner.Turn.{first_of};
+ghost use Rattle.ds_pages.specs.Inner.Places.{does_at};
+ghost use Rattle.ds_pages.specs.Inner.Page.{HoldsWords};
+ghost use Rattle.ds_ahead.specs.Inner.Operations.{StaysCalm};
+ghost use Rattle.ds_ahead.specs.Inner.Run.{position_here, left_here, StandsIn, IsFreeHere, IsAlone, MayGo, Ran};
 
 use crate::code::CodePage;
 use crate::execute::{
@@ -19,12 +19,12 @@ use crate::run::{do_at, do_operation, through_any_slot, through_slot};
 use ds_core::Core;
 use ds_dev::Bus;
 use ds_operations::OperationKind;
-use ds_pages::{Page, Turn};
+use ds_pages::{Page, Stride};
 use ds_tlb::Lookaside;
 
 /// The kind of the operation that is done alone in a turn.
 #[inline(always)]
-fn alone(turn: Turn, kind: OperationKind) -> AnyKind<2>
+fn alone(turn: Stride, kind: OperationKind) -> AnyKind<2>
     requires { IsAlone (first_of turn) kind }
     ensures single { first_of turn ≡ single result.0 }
     ensures some { result.0 ≢ OperationKind.Other }
@@ -69,7 +69,7 @@ fn plain<L: Lookaside, K: Execute>(
     let _length = page.length(i);
     match do_operation(core, page, i, kind, at, bus, code) {
         Outcome::Done => {
-            here.go_on();
+            here.go_to_next();
             Way::On
         }
         Outcome::Loaded => {
@@ -148,7 +148,7 @@ fn one<L: Lookaside, K: Execute>(
     let mut to = NOWHERE;
     match do_at(core, page, i, kind, first, at, bus, code, &mut to) {
         Outcome::Done => {
-            here.go_on();
+            here.go_to_next();
             Way::On
         }
         Outcome::Loaded => {
@@ -231,65 +231,85 @@ pub(crate) fn turn<L: Lookaside>(
     use OperationKind as Kind;
     let turn = page.turn(here.place);
     let kind = match turn {
-        Turn::Unknown | Turn::Left => return Way::Leaves,
-        Turn::Call => Kind::Syscall,
-        Turn::Nothing => Kind::Nothing,
-        Turn::Sll => Kind::Sll,
-        Turn::Srl => Kind::Srl,
-        Turn::Sra => Kind::Sra,
-        Turn::Sllv => Kind::Sllv,
-        Turn::Srlv => Kind::Srlv,
-        Turn::Srav => Kind::Srav,
-        Turn::Mfhi => Kind::Mfhi,
-        Turn::Mthi => Kind::Mthi,
-        Turn::Mflo => Kind::Mflo,
-        Turn::Mtlo => Kind::Mtlo,
-        Turn::Mult => Kind::Mult,
-        Turn::Multu => Kind::Multu,
-        Turn::Div => Kind::Div,
-        Turn::Divu => Kind::Divu,
-        Turn::Add => Kind::Add,
-        Turn::Addu => Kind::Addu,
-        Turn::Sub => Kind::Sub,
-        Turn::Subu => Kind::Subu,
-        Turn::And => Kind::And,
-        Turn::Or => Kind::Or,
-        Turn::Xor => Kind::Xor,
-        Turn::Nor => Kind::Nor,
-        Turn::Slt => Kind::Slt,
-        Turn::Sltu => Kind::Sltu,
-        Turn::Addi => Kind::Addi,
-        Turn::Addiu => Kind::Addiu,
-        Turn::Slti => Kind::Slti,
-        Turn::Sltiu => Kind::Sltiu,
-        Turn::Andi => Kind::Andi,
-        Turn::Ori => Kind::Ori,
-        Turn::Xori => Kind::Xori,
-        Turn::Lui => Kind::Lui,
-        Turn::Bltz => Kind::Bltz,
-        Turn::Bgez => Kind::Bgez,
-        Turn::Bltzal => Kind::Bltzal,
-        Turn::Bgezal => Kind::Bgezal,
-        Turn::Beq => Kind::Beq,
-        Turn::Bne => Kind::Bne,
-        Turn::Blez => Kind::Blez,
-        Turn::Bgtz => Kind::Bgtz,
-        Turn::J => Kind::J,
-        Turn::Jal => Kind::Jal,
-        Turn::Jr => Kind::Jr,
-        Turn::Jalr => Kind::Jalr,
-        Turn::Lb => Kind::Lb,
-        Turn::Lh => Kind::Lh,
-        Turn::Lw => Kind::Lw,
-        Turn::Lbu => Kind::Lbu,
-        Turn::Lhu => Kind::Lhu,
-        Turn::Sb => Kind::Sb,
-        Turn::Sh => Kind::Sh,
-        Turn::Sw => Kind::Sw,
-        Turn::AdduAddu => return two(core, page, code, first, (Addu, Addu), here, rest, at, bus),
-        Turn::AddiuAddu => return two(core, page, code, first, (Addiu, Addu), here, rest, at, bus),
-        Turn::AdduAddiu => return two(core, page, code, first, (Addu, Addiu), here, rest, at, bus),
-        Turn::AddiuAddiu => return two(
+        Stride::Unknown | Stride::Left => return Way::Leaves,
+        Stride::Call => Kind::Syscall,
+        Stride::Nothing => Kind::Nothing,
+        Stride::Sll => Kind::Sll,
+        Stride::Srl => Kind::Srl,
+        Stride::Sra => Kind::Sra,
+        Stride::Sllv => Kind::Sllv,
+        Stride::Srlv => Kind::Srlv,
+        Stride::Srav => Kind::Srav,
+        Stride::Mfhi => Kind::Mfhi,
+        Stride::Mthi => Kind::Mthi,
+        Stride::Mflo => Kind::Mflo,
+        Stride::Mtlo => Kind::Mtlo,
+        Stride::Mult => Kind::Mult,
+        Stride::Multu => Kind::Multu,
+        Stride::Div => Kind::Div,
+        Stride::Divu => Kind::Divu,
+        Stride::Add => Kind::Add,
+        Stride::Addu => Kind::Addu,
+        Stride::Sub => Kind::Sub,
+        Stride::Subu => Kind::Subu,
+        Stride::And => Kind::And,
+        Stride::Or => Kind::Or,
+        Stride::Xor => Kind::Xor,
+        Stride::Nor => Kind::Nor,
+        Stride::Slt => Kind::Slt,
+        Stride::Sltu => Kind::Sltu,
+        Stride::Addi => Kind::Addi,
+        Stride::Addiu => Kind::Addiu,
+        Stride::Slti => Kind::Slti,
+        Stride::Sltiu => Kind::Sltiu,
+        Stride::Andi => Kind::Andi,
+        Stride::Ori => Kind::Ori,
+        Stride::Xori => Kind::Xori,
+        Stride::Lui => Kind::Lui,
+        Stride::Bltz => Kind::Bltz,
+        Stride::Bgez => Kind::Bgez,
+        Stride::Bltzal => Kind::Bltzal,
+        Stride::Bgezal => Kind::Bgezal,
+        Stride::Beq => Kind::Beq,
+        Stride::Bne => Kind::Bne,
+        Stride::Blez => Kind::Blez,
+        Stride::Bgtz => Kind::Bgtz,
+        Stride::J => Kind::J,
+        Stride::Jal => Kind::Jal,
+        Stride::Jr => Kind::Jr,
+        Stride::Jalr => Kind::Jalr,
+        Stride::Lb => Kind::Lb,
+        Stride::Lh => Kind::Lh,
+        Stride::Lw => Kind::Lw,
+        Stride::Lbu => Kind::Lbu,
+        Stride::Lhu => Kind::Lhu,
+        Stride::Sb => Kind::Sb,
+        Stride::Sh => Kind::Sh,
+        Stride::Sw => Kind::Sw,
+        Stride::AdduAddu => return two(core, page, code, first, (Addu, Addu), here, rest, at, bus),
+        Stride::AddiuAddu => return two(
+            core,
+            page,
+            code,
+            first,
+            (Addiu, Addu),
+            here,
+            rest,
+            at,
+            bus,
+        ),
+        Stride::AdduAddiu => return two(
+            core,
+            page,
+            code,
+            first,
+            (Addu, Addiu),
+            here,
+            rest,
+            at,
+            bus,
+        ),
+        Stride::AddiuAddiu => return two(
             core,
             page,
             code,
@@ -300,25 +320,35 @@ pub(crate) fn turn<L: Lookaside>(
             at,
             bus,
         ),
-        Turn::SllAddu => return two(core, page, code, first, (Sll, Addu), here, rest, at, bus),
-        Turn::AdduSll => return two(core, page, code, first, (Addu, Sll), here, rest, at, bus),
-        Turn::LuiOri => return two(core, page, code, first, (Lui, Ori), here, rest, at, bus),
-        Turn::LuiAddiu => return two(core, page, code, first, (Lui, Addiu), here, rest, at, bus),
-        Turn::XorSrl => return two(core, page, code, first, (Xor, Srl), here, rest, at, bus),
-        Turn::AdduSltu => return two(core, page, code, first, (Addu, Sltu), here, rest, at, bus),
-        Turn::LwNothing => return two(core, page, code, first, (Lw, Nothing), here, rest, at, bus),
-        Turn::LwAddiu => return two(core, page, code, first, (Lw, Addiu), here, rest, at, bus),
-        Turn::LwAddu => return two(core, page, code, first, (Lw, Addu), here, rest, at, bus),
-        Turn::LwLw => return two(core, page, code, first, (Lw, Lw), here, rest, at, bus),
-        Turn::AddiuLw => return two(core, page, code, first, (Addiu, Lw), here, rest, at, bus),
-        Turn::AdduLw => return two(core, page, code, first, (Addu, Lw), here, rest, at, bus),
-        Turn::AdduSw => return two(core, page, code, first, (Addu, Sw), here, rest, at, bus),
-        Turn::AddiuSw => return two(core, page, code, first, (Addiu, Sw), here, rest, at, bus),
-        Turn::SwAddiu => return two(core, page, code, first, (Sw, Addiu), here, rest, at, bus),
-        Turn::SwSw => return two(core, page, code, first, (Sw, Sw), here, rest, at, bus),
-        Turn::SwLw => return two(core, page, code, first, (Sw, Lw), here, rest, at, bus),
-        Turn::LwLbu => return two(core, page, code, first, (Lw, Lbu), here, rest, at, bus),
-        Turn::LbuNothing => return two(
+        Stride::SllAddu => return two(core, page, code, first, (Sll, Addu), here, rest, at, bus),
+        Stride::AdduSll => return two(core, page, code, first, (Addu, Sll), here, rest, at, bus),
+        Stride::LuiOri => return two(core, page, code, first, (Lui, Ori), here, rest, at, bus),
+        Stride::LuiAddiu => return two(core, page, code, first, (Lui, Addiu), here, rest, at, bus),
+        Stride::XorSrl => return two(core, page, code, first, (Xor, Srl), here, rest, at, bus),
+        Stride::AdduSltu => return two(core, page, code, first, (Addu, Sltu), here, rest, at, bus),
+        Stride::LwNothing => return two(
+            core,
+            page,
+            code,
+            first,
+            (Lw, Nothing),
+            here,
+            rest,
+            at,
+            bus,
+        ),
+        Stride::LwAddiu => return two(core, page, code, first, (Lw, Addiu), here, rest, at, bus),
+        Stride::LwAddu => return two(core, page, code, first, (Lw, Addu), here, rest, at, bus),
+        Stride::LwLw => return two(core, page, code, first, (Lw, Lw), here, rest, at, bus),
+        Stride::AddiuLw => return two(core, page, code, first, (Addiu, Lw), here, rest, at, bus),
+        Stride::AdduLw => return two(core, page, code, first, (Addu, Lw), here, rest, at, bus),
+        Stride::AdduSw => return two(core, page, code, first, (Addu, Sw), here, rest, at, bus),
+        Stride::AddiuSw => return two(core, page, code, first, (Addiu, Sw), here, rest, at, bus),
+        Stride::SwAddiu => return two(core, page, code, first, (Sw, Addiu), here, rest, at, bus),
+        Stride::SwSw => return two(core, page, code, first, (Sw, Sw), here, rest, at, bus),
+        Stride::SwLw => return two(core, page, code, first, (Sw, Lw), here, rest, at, bus),
+        Stride::LwLbu => return two(core, page, code, first, (Lw, Lbu), here, rest, at, bus),
+        Stride::LbuNothing => return two(
             core,
             page,
             code,
@@ -329,52 +359,52 @@ pub(crate) fn turn<L: Lookaside>(
             at,
             bus,
         ),
-        Turn::LbuAddiu => return two(core, page, code, first, (Lbu, Addiu), here, rest, at, bus),
-        Turn::AdduSb => return two(core, page, code, first, (Addu, Sb), here, rest, at, bus),
-        Turn::SbAddiu => return two(core, page, code, first, (Sb, Addiu), here, rest, at, bus),
-        Turn::BeqNothing => {
+        Stride::LbuAddiu => return two(core, page, code, first, (Lbu, Addiu), here, rest, at, bus),
+        Stride::AdduSb => return two(core, page, code, first, (Addu, Sb), here, rest, at, bus),
+        Stride::SbAddiu => return two(core, page, code, first, (Sb, Addiu), here, rest, at, bus),
+        Stride::BeqNothing => {
             return with_slot(core, page, code, first, (Beq, Nothing), here, rest, at, bus);
         }
-        Turn::BeqAddiu => {
+        Stride::BeqAddiu => {
             return with_slot(core, page, code, first, (Beq, Addiu), here, rest, at, bus);
         }
-        Turn::BeqAddu => {
+        Stride::BeqAddu => {
             return with_slot(core, page, code, first, (Beq, Addu), here, rest, at, bus);
         }
-        Turn::BeqOr => {
+        Stride::BeqOr => {
             return with_slot(core, page, code, first, (Beq, Or), here, rest, at, bus);
         }
-        Turn::BneNothing => {
+        Stride::BneNothing => {
             return with_slot(core, page, code, first, (Bne, Nothing), here, rest, at, bus);
         }
-        Turn::BneAddiu => {
+        Stride::BneAddiu => {
             return with_slot(core, page, code, first, (Bne, Addiu), here, rest, at, bus);
         }
-        Turn::BneAddu => {
+        Stride::BneAddu => {
             return with_slot(core, page, code, first, (Bne, Addu), here, rest, at, bus);
         }
-        Turn::BneOr => {
+        Stride::BneOr => {
             return with_slot(core, page, code, first, (Bne, Or), here, rest, at, bus);
         }
-        Turn::JNothing => {
+        Stride::JNothing => {
             return with_slot(core, page, code, first, (J, Nothing), here, rest, at, bus);
         }
-        Turn::JAddiu => {
+        Stride::JAddiu => {
             return with_slot(core, page, code, first, (J, Addiu), here, rest, at, bus);
         }
-        Turn::JalNothing => {
+        Stride::JalNothing => {
             return with_slot(core, page, code, first, (Jal, Nothing), here, rest, at, bus);
         }
-        Turn::JalAddiu => {
+        Stride::JalAddiu => {
             return with_slot(core, page, code, first, (Jal, Addiu), here, rest, at, bus);
         }
-        Turn::JrNothing => {
+        Stride::JrNothing => {
             return with_slot(core, page, code, first, (Jr, Nothing), here, rest, at, bus);
         }
-        Turn::JrAddiu => {
+        Stride::JrAddiu => {
             return with_slot(core, page, code, first, (Jr, Addiu), here, rest, at, bus);
         }
-        Turn::JrAddu => {
+        Stride::JrAddu => {
             return with_slot(core, page, code, first, (Jr, Addu), here, rest, at, bus);
         }
     };

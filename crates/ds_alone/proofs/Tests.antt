@@ -17,10 +17,10 @@ use Rattle.ds_policy.specs.Grants.{is_some_right}
 use Rattle.ds_pagemap.specs.Machine.{State, process_of, is_waiting}
 use Rattle.ds_pagemap.specs.Calls.{queue_of}
 use Rattle.ds_pagemap.specs.Laws.{process_named}
-use Rattle.ds_promise.specs.Stores.{page_at}
+use Rattle.ds_promise.specs.Stores.{live_page}
 use Rattle.ds_promise.proofs.Entries.{false_is_not_true, or_first, or_second, one_grant, no_grant_found}
 use Rattle.ds_alone.specs.Alone.{IsLasting, HasPage, SharesNothing, GrantsElsewhere, LeavesAlone, HasSilentLine, HearsNothing, IsAlone, SeemsAlike}
-use Rattle.ds_alone.specs.Tests.{is_lasting, have_page, is_page_of, is_elsewhere, are_elsewhere, others_elsewhere, shares_nothing, grants_elsewhere, leaves_alone, has_silent_line, hears_nothing, is_alone, Holdings, page_named, holdings}
+use Rattle.ds_alone.specs.Tests.{is_lasting, have_page, is_page_of, is_elsewhere, are_elsewhere, others_elsewhere, shares_nothing, grants_elsewhere, leaves_alone, has_silent_line, hears_nothing, is_alone, Holdings, bytes_named, holdings}
 
 pub both : (a b : Bool) → (a && b) ≡ true → (a ≡ true) × (b ≡ true)
 both true b e = (refl, e)
@@ -190,13 +190,13 @@ is_found_alone listens p m e =
 
 -- Views.
 
-named_alike : (ps qs : Pages) (es : List Entry) (a page : ℕ) (g : Grant) → map (λ (e : Entry). page_named ps e.grant.page) es ≡ map (λ (e : Entry). page_named qs e.grant.page) es → found es a ≡ Some g → g.page ≡ Some page → page_at ps page ≡ page_at qs page
+named_alike : (ps qs : Pages) (es : List Entry) (a page : ℕ) (g : Grant) → map (λ (e : Entry). bytes_named ps e.grant.page) es ≡ map (λ (e : Entry). bytes_named qs e.grant.page) es → found es a ≡ Some g → g.page ≡ Some page → live_page ps page ≡ live_page qs page
 named_alike ps qs [] a page g same e names = no_grant_found g e
 named_alike ps qs (x ∷ es) a page g same e names = elim (cases_Bool (x.address == a)) [
   | inl here ↦
       let is : g ≡ x.grant = one_grant x.grant g (subst (λ (c : Bool). cond c (Some x.grant) (found es a) ≡ Some g) here e) in
       let at : x.grant.page ≡ Some page = ap (λ (h : Grant). h.page) (sym is) ∙ names in
-      sym (ap (page_named ps) at) ∙ (first_same _ _ _ _ same ∙ ap (page_named qs) at)
+      sym (ap (bytes_named ps) at) ∙ (first_same _ _ _ _ same ∙ ap (bytes_named qs) at)
   | inr there ↦ named_alike ps qs es a page g (rest_same _ _ _ _ same) (subst (λ (c : Bool). cond c (Some x.grant) (found es a) ≡ Some g) there e) names
 ]
   where
@@ -209,8 +209,8 @@ named_alike ps qs (x ∷ es) a page g same e names = elim (cases_Bool (x.address
 pub seen_alike : (p : ℕ) (m t : State) → 0 < p → p ≤ length m.processes → p ≤ length t.processes → holdings p m ≡ holdings p t → SeemsAlike p m t
 seen_alike p m t above here there e =
     let entries : entries_of m.memory.table p ≡ entries_of t.memory.table p = ap (λ (v : Holdings). v.entries) e in
-    let pages : map (λ (x : Entry). page_named m.memory.pages x.grant.page) (entries_of m.memory.table p) ≡ map (λ (x : Entry). page_named t.memory.pages x.grant.page) (entries_of m.memory.table p) =
-    ap (λ (v : Holdings). v.pages) e ∙ ap (map (λ (x : Entry). page_named t.memory.pages x.grant.page)) (sym entries) in
+    let pages : map (λ (x : Entry). bytes_named m.memory.pages x.grant.page) (entries_of m.memory.table p) ≡ map (λ (x : Entry). bytes_named t.memory.pages x.grant.page) (entries_of m.memory.table p) =
+    ap (λ (v : Holdings). v.pages) e ∙ ap (map (λ (x : Entry). bytes_named t.memory.pages x.grant.page)) (sym entries) in
     record {
       look = record {
         above = above;

@@ -32,7 +32,7 @@ use Rattle.ds_pagemap_laws.specs.Lawful.{IsLawful}
 use Rattle.ds_pagemap_laws.proofs.Formed.{still_within}
 use Rattle.ds_pagemap_laws.proofs.LawfulUnits.{touched_lawful}
 use Rattle.ds_promise.specs.Seen.{LookAlike, StayAlike}
-use Rattle.ds_promise.specs.Stores.{page_at}
+use Rattle.ds_promise.specs.Stores.{live_page}
 use Rattle.ds_promise.specs.Lines.{lines_of_first, lines_of_instruction}
 use Rattle.ds_promise.proofs.Granted.{allowed_holds, lets_something}
 use Rattle.ds_promise.proofs.Lines.{unit_lines}
@@ -40,8 +40,9 @@ use Rattle.ds_promise.proofs.Seen.{stay_alike}
 use Rattle.ds_promise.proofs.Stores.{touched_owed}
 use Rattle.ds_promise.proofs.WholeStates.{touched_whole}
 use Rattle.ds_promise.specs.Alike.{is_kernel_register, is_quiet, AreLateAlike, AreAlike}
-use Rattle.ds_promise.specs.Twins.{IsTwinProcess, AreTwins, IsTwin, OutcomesAlike, HaveRegisters}
-use Rattle.ds_promise.specs.Quiet.{quiet_where, quiet_at, quiet_behind, quiet_first}
+use Rattle.ds_promise.specs.Twins.{HaveRegisters}
+use Rattle.ds_promise.specs.Inner.Twins.{IsTwinProcess, AreTwins, IsTwin, OutcomesAlike}
+use Rattle.ds_promise.specs.Quiet.{quiet_where, quiet_at, quiet_after, quiet_first}
 use Rattle.ds_promise.proofs.Inputs.{have_registers}
 use Rattle.ds_promise.proofs.Twins.{twin, twins_set}
 use Rattle.ds_promise.proofs.Units as twins
@@ -54,7 +55,7 @@ use Rattle.ds_alone.specs.Touched.{doing}
 same_answer : (p : ℕ) (m t : State) → LookAlike p m t → (pc : ℕ) → decide m.memory.table p Fetch Word pc ≡ decide t.memory.table p Fetch Word pc
 same_answer p m t k pc = ap (λ (e : Option Grant). cond (not (is_aligned Word pc)) (Denied A (address_code Fetch)) (cond (nat_le (2 ^ 31) pc) (Denied K (address_code Fetch)) (by_entry e Fetch (pc % 4096)))) (k.entries (page_address pc))
 
-shared_page : (p : ℕ) (m t : State) → LookAlike p m t → (pc page offset : ℕ) → decide m.memory.table p Fetch Word pc ≡ Allowed page offset → page_at m.memory.pages page ≡ page_at t.memory.pages page
+shared_page : (p : ℕ) (m t : State) → LookAlike p m t → (pc page offset : ℕ) → decide m.memory.table p Fetch Word pc ≡ Allowed page offset → live_page m.memory.pages page ≡ live_page t.memory.pages page
 shared_page p m t k pc page offset e =
     let h = allowed_holds m.memory.table p Fetch Word pc page offset e in
     k.pages (page_address pc) page h.grant h.held (lets_something h.grant.right Fetch h.right) h.names
@@ -63,13 +64,13 @@ abbrev bytes_or : Option (List ℕ) → List ℕ
 bytes_or None = []
 bytes_or (Some bytes) = bytes
 
-bytes_are : (ps : Pages) (page : ℕ) → bytes_of ps page ≡ bytes_or (page_at ps page)
+bytes_are : (ps : Pages) (page : ℕ) → bytes_of ps page ≡ bytes_or (live_page ps page)
 bytes_are [] page = refl
 bytes_are (None ∷ ps) zero = refl
 bytes_are (Some b ∷ ps) zero = refl
 bytes_are (b ∷ ps) (suc page) = bytes_are ps page
 
-same_bytes : (ps qs : Pages) (page : ℕ) → page_at ps page ≡ page_at qs page → bytes_of ps page ≡ bytes_of qs page
+same_bytes : (ps qs : Pages) (page : ℕ) → live_page ps page ≡ live_page qs page → bytes_of ps page ≡ bytes_of qs page
 same_bytes ps qs page s = bytes_are ps page ∙ (ap bytes_or s ∙ sym (bytes_are qs page))
 
 -- What is quiet in one state is so in one that seems alike.
@@ -83,18 +84,18 @@ quiet_by p pc m t k (Denied rule code) is = refl
 quiet_same : (p pc : ℕ) (m t : State) → LookAlike p m t → quiet_at m p pc ≡ quiet_at t p pc
 quiet_same p pc m t k = quiet_by p pc m t k (decide m.memory.table p Fetch Word pc) refl ∙ ap (quiet_where t p) (same_answer p m t k pc)
 
-behind_same : (p pc : ℕ) (o u : Outcome) → StayAlike p o u → quiet_behind p pc o ≡ quiet_behind p pc u
-behind_same p pc (Went x) (Went y) s = refl
-behind_same p pc (Branched x target) (Branched y there) s = quiet_same p (word (pc + 4)) x y s.0
-behind_same p pc Called Called s = refl
-behind_same p pc (Stopped stop) (Stopped other) s = refl
-behind_same p pc o u s = absurd s
+past_same : (p pc : ℕ) (o u : Outcome) → StayAlike p o u → quiet_after p pc o ≡ quiet_after p pc u
+past_same p pc (Went x) (Went y) s = refl
+past_same p pc (Branched x target) (Branched y there) s = quiet_same p (word (pc + 4)) x y s.0
+past_same p pc Called Called s = refl
+past_same p pc (Stopped stop) (Stopped other) s = refl
+past_same p pc o u s = absurd s
 
 pub first_same : (p : ℕ) (m t : State) (rest others : List ℕ) → LookAlike p m t → quiet_first m (p ∷ rest) ≡ quiet_first t (p ∷ others)
 first_same p m t rest others k =
     let pc = (process_of m p).pc in
-    ap₂ (λ (a b : Bool). a && b) (quiet_same p pc m t k) (behind_same p pc (instruction m p pc) (instruction t p pc) (stay_alike p pc m t k))
-    ∙ ap (λ (a : ℕ). quiet_at t p a && quiet_behind p a (instruction t p a)) k.pc
+    ap₂ (λ (a b : Bool). a && b) (quiet_same p pc m t k) (past_same p pc (instruction m p pc) (instruction t p pc) (stay_alike p pc m t k))
+    ∙ ap (λ (a : ℕ). quiet_at t p a && quiet_after p a (instruction t p a)) k.pc
 
 -- States of a run that was touched.
 
@@ -107,7 +108,7 @@ pub record SeemsTouched (p : ℕ) (t m : State) : Type 0 where
   pub pc : (process_of t p).pc ≡ (process_of m p).pc
   pub standing : (process_of t p).standing ≡ (process_of m p).standing
   pub entries : (address : ℕ) → entry_at t.memory.table p address ≡ entry_at m.memory.table p address
-  pub pages : (address page : ℕ) (g : Grant) → entry_at t.memory.table p address ≡ Some g → is_some_right g.right ≡ true → g.page ≡ Some page → page_at t.memory.pages page ≡ page_at m.memory.pages page
+  pub pages : (address page : ℕ) (g : Grant) → entry_at t.memory.table p address ≡ Some g → is_some_right g.right ≡ true → g.page ≡ Some page → live_page t.memory.pages page ≡ live_page m.memory.pages page
   pub room : length t.memory.pages ≡ length m.memory.pages
 
 -- m with the registers that process p has in t
@@ -162,7 +163,7 @@ from_twin p t x m s k =
       pc = s.look.pc ∙ q.pc;
       standing = s.standing ∙ q.standing;
       entries = λ a. s.look.entries a ∙ ap (λ (y : State). entry_at y.memory.table p a) (sym k.is);
-      pages = λ a page g held right names. s.look.pages a page g held right names ∙ ap (λ (y : State). page_at y.memory.pages page) (sym k.is);
+      pages = λ a page g held right names. s.look.pages a page g held right names ∙ ap (λ (y : State). live_page y.memory.pages page) (sym k.is);
       room = s.look.room ∙ ap (λ (y : State). length y.memory.pages) (sym k.is);
     }
   where
@@ -236,7 +237,7 @@ module _ (p : ℕ) (m u : State) (x : Touches p m u) where
     pc = k.pc ∙ sym (same_field (λ q. q.pc) (λ q. refl));
     standing = k.standing ∙ sym (same_field (λ q. q.standing) (λ q. refl));
     entries = λ a. k.entries a ∙ ap (λ (s : PageState). entry_at s.table p a) (sym x.memory);
-    pages = λ a page g held right names. k.pages a page g held right names ∙ ap (λ (s : PageState). page_at s.pages page) (sym x.memory);
+    pages = λ a page g held right names. k.pages a page g held right names ∙ ap (λ (s : PageState). live_page s.pages page) (sym x.memory);
     room = k.room ∙ ap (λ (s : PageState). length s.pages) (sym x.memory);
   }
 
@@ -310,7 +311,7 @@ module _ (p : ℕ) (x : State) (qs : List Process) (rest : List ℕ) (k : AreTwi
   pc = (process_of x p).pc
 
   outcomes : OutcomesAlike (instruction x p pc) (instruction m p pc)
-  outcomes = twins.instruction_alike x qs p pc k (both (quiet_at x p pc) (quiet_behind p pc (instruction x p pc)) quiet).0
+  outcomes = twins.instruction_alike x qs p pc k (both (quiet_at x p pc) (quiet_after p pc (instruction x p pc)) quiet).0
 
   registers_too : AreAlike (process_of x p).registers (process_of m p).registers
   registers_too = (k.each (p - 1)).registers

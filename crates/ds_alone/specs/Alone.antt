@@ -18,7 +18,7 @@ use Rattle.ds_pagemap.specs.Unit.{Outcome, Called, instruction}
 use Rattle.ds_pagemap.specs.Run.{goes_on, go}
 use Rattle.ds_pagemap.specs.Laws.{process_named}
 use Rattle.ds_pagemap_laws.specs.Lawful.{IsLawful}
-use Rattle.ds_promise.specs.Lines.{refusal}
+use Rattle.ds_promise.specs.Lines.{refused_by}
 use Rattle.ds_promise.specs.Whole.{HasWholePages}
 use Rattle.ds_promise.specs.Seen.{LookAlike}
 
@@ -77,7 +77,7 @@ pub record StandsAlone (listens : Bool) (p : ℕ) (m : State) : Type 0 where
 
 -- the call of process q gives process p something, and isn't refused
 abbrev pub call_gives : State → ℕ → Call → ℕ → Bool
-call_gives m q (call.Give address receiver to mode) p = (receiver == p) && not (is_some (refusal (give (lives m) m.memory q address receiver to mode)))
+call_gives m q (call.Give address receiver to mode) p = (receiver == p) && not (is_some (refused_by (give (lives m) m.memory q address receiver to mode)))
 call_gives m q other p = false
 
 -- of all that an instruction of process q comes to, a call alone can give

@@ -12,7 +12,7 @@ use Rattle.ds_policy.specs.Grants.{is_some_right}
 use Rattle.ds_pagemap.specs.Machine.{State, process_of, is_waiting}
 use Rattle.ds_pagemap.specs.Calls.{queue_of}
 use Rattle.ds_pagemap.specs.Laws.{process_named}
-use Rattle.ds_promise.specs.Stores.{page_at}
+use Rattle.ds_promise.specs.Stores.{live_page}
 use Rattle.ds_alone.specs.Deeds.{alone_after}
 
 -- a grant of the operator's, without an end
@@ -93,15 +93,15 @@ pub record Holdings : Type 0 where
   pub frames : ℕ
 
 -- the bytes of the page that is named
-abbrev pub page_named : Pages → Option ℕ → Option (List ℕ)
-page_named pages None = None
-page_named pages (Some page) = page_at pages page
+abbrev pub bytes_named : Pages → Option ℕ → Option (List ℕ)
+bytes_named pages None = None
+bytes_named pages (Some page) = live_page pages page
 
 abbrev pub holdings : ℕ → State → Holdings
 holdings p m =
     let q = process_of m p in
     let es = entries_of m.memory.table p in
-    record { registers = q.registers; pc = q.pc; standing = q.standing; entries = es; pages = map (λ e. page_named m.memory.pages e.grant.page) es; frames = length m.memory.pages }
+    record { registers = q.registers; pc = q.pc; standing = q.standing; entries = es; pages = map (λ e. bytes_named m.memory.pages e.grant.page) es; frames = length m.memory.pages }
 
 -- alone, process p has after so many units what it has so many more later: so it goes round for ever
 pub record GoesRound (p before round : ℕ) (m : State) : Type 0 where

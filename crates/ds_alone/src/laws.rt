@@ -7,34 +7,12 @@ ghost use Rattle.ds_pagemap.specs.Machine.{State};
 ghost use Rattle.ds_pagemap.specs.Run.{after, Reaches};
 ghost use Rattle.ds_pagemap_laws.specs.Lawful.{IsLawful};
 ghost use Rattle.ds_promise.specs.Whole.{HasWholePages};
-ghost use Rattle.ds_alone.specs.Alone.{
-  IsAlone,
-  NothingWaits,
-  SeemsAlike,
-  StandsAlone,
-  is_given_nothing,
-};
+ghost use Rattle.ds_alone.specs.Alone.{IsAlone, NothingWaits, SeemsAlike, StandsAlone, is_given_nothing};
 ghost use Rattle.ds_alone.specs.Consoles.{HasOwnLine, has_own_line, console_of};
-ghost use Rattle.ds_alone.specs.Deeds.{
-  deeds,
-  deeds_alone,
-  asks_nothing_alone,
-  AsksNothing,
-  stops_alone,
-  puts,
-  IsFront,
-  AreFronts,
-};
+ghost use Rattle.ds_alone.specs.Deeds.{deeds, deeds_alone, asks_nothing_alone, AsksNothing, stops_alone, puts, IsFront, AreFronts};
 ghost use Rattle.ds_alone.specs.Log.{said_of, told_by, ShowsMore, ShowsAlone};
 ghost use Rattle.ds_alone.specs.Tests.{GoesRound, is_alone, nobody_may_give, holdings};
-ghost use Rattle.ds_alone.specs.Touched.{
-  doing,
-  doings,
-  is_given_nothing_by,
-  quiet_alone,
-  IsQuietAlone,
-  puts_by,
-};
+ghost use Rattle.ds_alone.specs.Touched.{doing, doings, is_given_nothing_by, quiet_alone, IsQuietAlone, puts_by};
 
 /// What a process does alone depends on its registers, its entries and their pages alone; and so do
 /// what it asks, and whether it is quiet. In each law here `listens` says whether the process may ask

@@ -4,7 +4,7 @@ use Rattle.std.specs.Prelude.{Option, Some, None, Ok, Err, nat_le, not, ◌&&◌
 use Rattle.std.proofs.lemmas.Bool.Decides.{nat_tests}
 use Rattle.ds_tlb.specs.declared.entry.Entry.{Entry}
 use Rattle.ds_tlb.specs.Entries.{find}
-use Rattle.ds_tlb.specs.Frames.{base_in, entry_in, base_of}
+use Rattle.ds_tlb.specs.Inner.Frames.{base_in, entry_in, base_of}
 use Rattle.ds_isa.specs.declared.instr.Kind.{Kind}
 use Rattle.ds_isa.specs.Access.{is_store}
 use Rattle.ds_amap.specs.declared.map.Mode.{Mode}

@@ -1,2 +1,3 @@
 pub mod Map
-pub mod Worked
+pub mod Inner
+pub mod Rows

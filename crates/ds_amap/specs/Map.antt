@@ -1,7 +1,7 @@
 -- The address map (Kane and Heinrich, chapter 4).
-use Rattle.std.specs.Prelude.{ℕ, ◌+◌, ◌*◌, ◌/◌, ◌%◌, ◌^◌, Bool, true, false, ◌&&◌, not, nat_lt, nat_le, if◌then◌else◌, IsTrue, All, List, slice_get, Option, Some, None, Result, Ok, Err}
+use Rattle.std.specs.Prelude.{ℕ, ◌+◌, ◌*◌, ◌/◌, ◌%◌, ◌^◌, Bool, true, false, ◌&&◌, not, nat_lt, nat_le, if◌then◌else◌, List, slice_get, Option, Some, None, Result, Ok, Err}
 use Rattle.ds_tlb.specs.declared.entry.Entry.{Entry}
-use Rattle.ds_tlb.specs.Entries.{matches, find}
+use Rattle.ds_tlb.specs.Entries.{find}
 use Rattle.ds_isa.specs.declared.instr.Kind.{Kind}
 use Rattle.ds_isa.specs.Access.{is_store}
 use Rattle.ds_amap.specs.declared.map.Mode.{Mode}
@@ -62,11 +62,3 @@ translate entries asid mode access addr =
     if not (is_usable mode addr) then Err Address
     else if is_direct addr then Ok (at_physical (addr % 2 ^ 29))
     else mapped entries asid access addr
-
--- no entry matches the address
-abbrev pub IsMissing : List Entry → ℕ → ℕ → Type 0
-IsMissing entries asid addr = All (λ e. IsTrue (not (matches (addr / 2 ^ 12) asid e))) entries
-
--- the address is mapped, the mode may use it, and no entry matches it
-abbrev pub NeedsRefill : List Entry → ℕ → Mode → ℕ → Type 0
-NeedsRefill entries asid mode addr = IsTrue (is_usable mode addr) × IsTrue (not (is_direct addr)) × IsMissing entries asid addr

@@ -4,5 +4,5 @@
 
 mod map;
 
-pub use ds_isa::Kind as Access;
+pub use ds_isa::Kind;
 pub use map::{Fault, Mode, Physical, reach, recalled, recalled_aligned, translate};

@@ -2,9 +2,10 @@
 ghost use Rattle.std.specs.Prelude.{◌≡◌, ◌≢◌, ◌↔◌, ◌<◌, ◌/◌, ◌%◌, ◌^◌, true, All, Ok, Err, IfSome, IsNone, IsTrue, not};
 ghost use Rattle.ds_isa.specs.Access.{is_aligned};
 ghost use Rattle.ds_tlb.specs.Entries.{find, matches};
-ghost use Rattle.ds_amap.specs.Map.{is_modified, place, through, mapped, translate, IsMissing, NeedsRefill};
+ghost use Rattle.ds_amap.specs.Map.{is_modified, place, through, mapped, translate};
+ghost use Rattle.ds_amap.specs.Inner.Map.{IsMissing, NeedsRefill};
 
-use crate::Access;
+use crate::Kind;
 use ds_isa::Size;
 use ds_tlb::{Entry, Lookaside};
 use ds_word::PAGE_SIZE;
@@ -46,7 +47,7 @@ const KSEG2: u32 = 0xc000_0000;
 #[inline(always)]
 pub fn translate<L: Lookaside>(
     addr: u32,
-    access: Access,
+    access: Kind,
     mode: Mode,
     tlb: &L,
     asid: u8,
@@ -68,7 +69,7 @@ pub fn translate<L: Lookaside>(
 /// The place of an address in memory, where the buffer remembers its page. In the lower half of the
 /// addresses alone, which is mapped in either mode.
 #[inline(always)]
-pub fn recalled<L: Lookaside>(addr: u32, access: Access, tlb: &L, asid: u8) -> Option<Physical>
+pub fn recalled<L: Lookaside>(addr: u32, access: Kind, tlb: &L, asid: u8) -> Option<Physical>
     ensures value { (mode : Mode)
         → IfSome result (λ place. translate (L.entries tlb.now) asid mode access addr ≡ Ok place) }
     ensures inside { IfSome result (λ place. place.0 < 2 ^ 23) }
@@ -81,7 +82,7 @@ pub fn recalled<L: Lookaside>(addr: u32, access: Access, tlb: &L, asid: u8) -> O
 #[tactic(auto, using(crate::proofs::Bases::translate_by_place))]
 pub fn recalled_aligned<L: Lookaside>(
     addr: u32,
-    access: Access,
+    access: Kind,
     size: Size,
     tlb: &L,
     asid: u8,
@@ -102,7 +103,7 @@ pub fn recalled_aligned<L: Lookaside>(
 #[tactic(auto, using(crate::proofs::Bases::translate_by_base))]
 pub fn reach<L: Lookaside>(
     addr: u32,
-    access: Access,
+    access: Kind,
     mode: Mode,
     tlb: &mut L,
     asid: u8,
@@ -122,7 +123,7 @@ pub fn reach<L: Lookaside>(
 
 /// What the entries answer.
 #[inline(always)]
-fn mapped<L: Lookaside>(addr: u32, access: Access, tlb: &L, asid: u8) -> Result<Physical, Fault>
+fn mapped<L: Lookaside>(addr: u32, access: Kind, tlb: &L, asid: u8) -> Result<Physical, Fault>
     ensures value { result ≡ mapped (L.entries tlb.now) asid access addr }
     ensures refill { (result ≡ Err Fault.Refill) ↔ IsMissing (L.entries tlb.now) asid addr }
 {
@@ -161,7 +162,7 @@ fn find_for_kernel<L: Lookaside>(tlb: &L, vpn: u32, asid: u8) -> Option<usize>
 
 /// What a matching entry answers.
 #[inline(always)]
-fn through(entry: Entry, access: Access, addr: u32) -> Result<Physical, Fault>
+fn through(entry: Entry, access: Kind, addr: u32) -> Result<Physical, Fault>
     ensures value { result ≡ through entry access addr }
     ensures matched { result ≢ Err Fault.Refill }
 {
@@ -176,7 +177,7 @@ fn through(entry: Entry, access: Access, addr: u32) -> Result<Physical, Fault>
 
 /// Whether the access is a store to a page that may not be written.
 #[inline(always)]
-fn is_modified(entry: Entry, access: Access) -> bool
+fn is_modified(entry: Entry, access: Kind) -> bool
     ensures { result ≡ is_modified entry access }
 {
     access.is_store() && !entry.d

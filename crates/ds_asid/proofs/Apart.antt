@@ -5,7 +5,8 @@ use Rattle.std.proofs.lemmas.Bool.{cases_eq, cases_Bool}
 use Rattle.std.proofs.lemmas.Bool.Decides.{nat_tests}
 use Rattle.std.proofs.lemmas.Grind.{common_steps}
 use Rattle.std.proofs.lemmas.List.{get_or-set_same, get_or-set_other, length-replicate, get_or-replicate, get_or_past, set-get_or}
-use Rattle.ds_asid.specs.Spaces.{Spaces, AreApart, at_start, number_of, number_held, taken, given_up}
+use Rattle.ds_asid.specs.Spaces.{Spaces, AreApart, at_start, space_number, space_taken}
+use Rattle.ds_asid.specs.Inner.Spaces.{number_held, given_up}
 
 -- no place of zeros has a number
 none_of : (n p : ℕ) → slice_index (replicate n 0) p ≡ 0
@@ -17,7 +18,7 @@ none_of n p = elim (cases_Bool (nat_lt p n)) [
       get_or_past (replicate n 0) p 0 (omega arith)
 ]
 
-pub none_at_start : (p : ℕ) → number_of at_start p ≡ 0
+pub none_at_start : (p : ℕ) → space_number at_start p ≡ 0
 none_at_start p = none_of 101 p
 
 pub start_apart : AreApart at_start
@@ -30,34 +31,34 @@ start_apart = record {
 }
 
 -- who takes a number has that, and each other keeps its own
-pub taken_there : (s : Spaces) (p : ℕ) → AreApart s → p < 101 → number_of (taken s p) p ≡ s.next
+pub taken_there : (s : Spaces) (p : ℕ) → AreApart s → p < 101 → space_number (space_taken s p) p ≡ s.next
 taken_there s p k there = let size = k.places in get_or-set_same s.numbers p s.next 0 (omega arith)
 
-pub taken_elsewhere : (s : Spaces) (p q : ℕ) → q ≢ p → number_of (taken s p) q ≡ number_of s q
+pub taken_elsewhere : (s : Spaces) (p q : ℕ) → q ≢ p → space_number (space_taken s p) q ≡ space_number s q
 taken_elsewhere s p q other = get_or-set_other s.numbers p q s.next 0 other
 
-pub taken_apart : (s : Spaces) (p : ℕ) → AreApart s → p < 101 → s.next < 64 → AreApart (taken s p)
+pub taken_apart : (s : Spaces) (p : ℕ) → AreApart s → p < 101 → s.next < 64 → AreApart (space_taken s p)
 taken_apart s p k there free = record {
   places = length-set s.numbers p s.next ∙ k.places;
   low = omega arith;
   high = omega arith;
   used = λ q. elim (cases_eq q p) [
-    | inl same ↦ let is : number_of (taken s p) q ≡ s.next = rw same (taken_there s p k there) in omega arith
-    | inr other ↦ let is : number_of (taken s p) q ≡ number_of s q = taken_elsewhere s p q other in let old = k.used q in omega arith
+    | inl same ↦ let is : space_number (space_taken s p) q ≡ s.next = rw same (taken_there s p k there) in omega arith
+    | inr other ↦ let is : space_number (space_taken s p) q ≡ space_number s q = taken_elsewhere s p q other in let old = k.used q in omega arith
   ];
   apart = λ q r some same. elim (cases_eq q p) [
     | inl first ↦ elim (cases_eq r p) [
       | inl second ↦ first ∙ sym second
       | inr other ↦
-          let new : number_of (taken s p) q ≡ s.next = rw first (taken_there s p k there) in
-          let old : number_of (taken s p) r ≡ number_of s r = taken_elsewhere s p r other in
+          let new : space_number (space_taken s p) q ≡ s.next = rw first (taken_there s p k there) in
+          let old : space_number (space_taken s p) r ≡ space_number s r = taken_elsewhere s p r other in
           let low = k.used r in
           absurd (omega arith)
     ]
     | inr other ↦ elim (cases_eq r p) [
       | inl second ↦
-          let new : number_of (taken s p) r ≡ s.next = rw second (taken_there s p k there) in
-          let old : number_of (taken s p) q ≡ number_of s q = taken_elsewhere s p q other in
+          let new : space_number (space_taken s p) r ≡ s.next = rw second (taken_there s p k there) in
+          let old : space_number (space_taken s p) q ≡ space_number s q = taken_elsewhere s p q other in
           let low = k.used q in
           absurd (omega arith)
       | inr another ↦ k.apart q r (subst (λ n. 0 < n) (taken_elsewhere s p q other) some) (sym (taken_elsewhere s p q other) ∙ (same ∙ taken_elsewhere s p r another))
@@ -66,7 +67,7 @@ taken_apart s p k there free = record {
 }
 
 -- who gave a number up has none, and each other keeps its own
-pub gone_there : (s : Spaces) (p : ℕ) → number_of (given_up s p) p ≡ 0
+pub gone_there : (s : Spaces) (p : ℕ) → space_number (given_up s p) p ≡ 0
 gone_there s p = zero_there s.numbers p
   where
     zero_there : (xs : List ℕ) (p : ℕ) → slice_index (slice_set xs p 0) p ≡ 0
@@ -75,16 +76,16 @@ gone_there s p = zero_there s.numbers p
       | inr past ↦ let above : length xs ≤ p = grind (arith, nat_tests) in grind (arith, common_steps)
     ]
 
-pub others_stay : (s : Spaces) (p q : ℕ) → q ≢ p → number_of (given_up s p) q ≡ number_of s q
+pub others_stay : (s : Spaces) (p q : ℕ) → q ≢ p → space_number (given_up s p) q ≡ space_number s q
 others_stay s p q other = get_or-set_other s.numbers p q 0 0 other
 
-cleared : (s : Spaces) (p q : ℕ) → (number_of (given_up s p) q ≡ 0) ⊎ (number_of (given_up s p) q ≡ number_of s q)
+cleared : (s : Spaces) (p q : ℕ) → (space_number (given_up s p) q ≡ 0) ⊎ (space_number (given_up s p) q ≡ space_number s q)
 cleared s p q = elim (cases_eq q p) [
   | inl same ↦ inl (rw same (gone_there s p))
   | inr other ↦ inr (others_stay s p q other)
 ]
 
-kept : (s : Spaces) (p q : ℕ) → 0 < number_of (given_up s p) q → number_of (given_up s p) q ≡ number_of s q
+kept : (s : Spaces) (p q : ℕ) → 0 < space_number (given_up s p) q → space_number (given_up s p) q ≡ space_number s q
 kept s p q some = elim (cleared s p q) [ inl none ↦ absurd (omega arith) | inr same ↦ same ]
 
 pub given_up_apart : (s : Spaces) (p : ℕ) → AreApart s → AreApart (given_up s p)
@@ -100,20 +101,20 @@ given_up_apart s p k = record {
 }
 
 -- whose number is 0 has none, and every other one is some
-pub none_held : (s : Spaces) (p : ℕ) → number_held s p ≡ None → number_of s p ≡ 0
-none_held s p none = elim (cases_Bool (number_of s p == 0)) [
-  | inl zero_there ↦ let is : number_of s p ≡ 0 = grind (arith, nat_tests) in is
-  | inr other ↦ absurd (none_some (number_of s p) (sym none ∙ ap (λ (b : Bool). cond b None (Some (number_of s p))) other))
+pub none_held : (s : Spaces) (p : ℕ) → number_held s p ≡ None → space_number s p ≡ 0
+none_held s p none = elim (cases_Bool (space_number s p == 0)) [
+  | inl zero_there ↦ let is : space_number s p ≡ 0 = grind (arith, nat_tests) in is
+  | inr other ↦ absurd (none_some (space_number s p) (sym none ∙ ap (λ (b : Bool). cond b None (Some (space_number s p))) other))
 ]
   where
     none_some : (n : ℕ) → ◌≡◌ {A = Option ℕ} None (Some n) → ⊥
     none_some n e = absurd cc
 
 -- who has one has that
-pub some_held : (s : Spaces) (p n : ℕ) → number_held s p ≡ Some n → number_of s p ≡ n
-some_held s p n held = elim (cases_Bool (number_of s p == 0)) [
-  | inl zero_there ↦ absurd (none_some n (sym (ap (λ (b : Bool). cond b None (Some (number_of s p))) zero_there) ∙ held))
-  | inr other ↦ (let same : Some (number_of s p) ≡ Some n = sym (ap (λ (b : Bool). cond b None (Some (number_of s p))) other) ∙ held in cc)
+pub some_held : (s : Spaces) (p n : ℕ) → number_held s p ≡ Some n → space_number s p ≡ n
+some_held s p n held = elim (cases_Bool (space_number s p == 0)) [
+  | inl zero_there ↦ absurd (none_some n (sym (ap (λ (b : Bool). cond b None (Some (space_number s p))) zero_there) ∙ held))
+  | inr other ↦ (let same : Some (space_number s p) ≡ Some n = sym (ap (λ (b : Bool). cond b None (Some (space_number s p))) other) ∙ held in cc)
 ]
   where
     none_some : (n : ℕ) → ◌≡◌ {A = Option ℕ} None (Some n) → ⊥
@@ -121,8 +122,8 @@ some_held s p n held = elim (cases_Bool (number_of s p == 0)) [
 
 -- and it is none that no process has
 pub held_some : (s : Spaces) (p n : ℕ) → number_held s p ≡ Some n → 0 < n
-held_some s p n held = elim (cases_Bool (number_of s p == 0)) [
-  | inl zero_there ↦ absurd (none_some n (sym (ap (λ (b : Bool). cond b None (Some (number_of s p))) zero_there) ∙ held))
+held_some s p n held = elim (cases_Bool (space_number s p == 0)) [
+  | inl zero_there ↦ absurd (none_some n (sym (ap (λ (b : Bool). cond b None (Some (space_number s p))) zero_there) ∙ held))
   | inr other ↦ (
       let is = some_held s p n held in
       let some : (n == 0) ≡ false = subst (λ (m : ℕ). (m == 0) ≡ false) is other in
@@ -146,7 +147,7 @@ held_within s p n k held = elim (cases_Bool (nat_lt p 101)) [
   | inr past ↦
       let above : 101 ≤ p = grind (arith, nat_tests) in
       let size = k.places in
-      let none : number_of s p ≡ 0 = get_or_past s.numbers p 0 (omega arith) in
+      let none : space_number s p ≡ 0 = get_or_past s.numbers p 0 (omega arith) in
       absurd (some_number n (sym (ap (λ (m : ℕ). if m == 0 then None else Some m) none) ∙ held))
 ]
   where

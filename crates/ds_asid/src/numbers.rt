@@ -1,7 +1,8 @@
 //! The numbers that processes have, and the next one to be handed out.
 ghost use Rattle.std.specs.Prelude.{◌≡◌, ℕ, ◌<◌, ◌≤◌, ◌≢◌, nat_lt, if◌then◌else◌, None};
 ghost use Rattle.ds_tlb.specs.Entries.{empty_entries};
-ghost use Rattle.ds_asid.specs.Spaces.{AreApart, at_start, number_of, number_held, taken, after_take, given_up};
+ghost use Rattle.ds_asid.specs.Spaces.{AreApart, at_start, space_number, space_taken};
+ghost use Rattle.ds_asid.specs.Inner.Spaces.{number_held, after_take, given_up};
 
 use ds_tlb::{Entry, Lookaside};
 use std::marker::Model;
@@ -72,13 +73,13 @@ impl Asids {
         requires process { process ≤ 100 }
         requires none { number_held self.old process ≡ None }
         ensures value { self.new ≡ after_take self.old process }
-        ensures number { result ≡ number_of self.new process }
+        ensures number { result ≡ space_number self.new process }
         ensures range { (1 ≤ result) × (result < 64) }
         ensures buffer { L.entries tlb.new
             ≡ (if nat_lt self.old.next 64 then L.entries tlb.old else empty_entries L.SLOTS) }
         ensures random { L.random_place tlb.new ≡ L.random_place tlb.old }
         ensures apart { AreApart self.new }
-        ensures fresh { self.old.next < 64 → (q : ℕ) → number_of self.old q ≢ result }
+        ensures fresh { self.old.next < 64 → (q : ℕ) → space_number self.old q ≢ result }
     {
         if self.next == SPACES {
             self.flush(tlb);
@@ -90,12 +91,12 @@ impl Asids {
     fn hand_out(&mut self, process: u32) -> u8
         requires process { process ≤ 100 }
         requires left { self.old.next < 64 }
-        ensures value { self.new ≡ taken self.old process }
+        ensures value { self.new ≡ space_taken self.old process }
         ensures number { result ≡ self.old.next }
-        ensures held { result ≡ number_of self.new process }
+        ensures held { result ≡ space_number self.new process }
         ensures range { 1 ≤ result }
         ensures apart { AreApart self.new }
-        ensures fresh { (q : ℕ) → number_of self.old q < result }
+        ensures fresh { (q : ℕ) → space_number self.old q < result }
     {
         let number = self.next;
         self.numbers[process as usize] = number;

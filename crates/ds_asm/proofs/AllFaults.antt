@@ -5,21 +5,22 @@ use Rattle.ds_word.proofs.ResultBinding.{bind_ok}
 use Rattle.ds_word.specs.ResultBinding.{◌>>=◌}
 use Rattle.ds_asm.specs.Lines.{Line, line_of}
 use Rattle.ds_asm.specs.declared.fault.SourceFault.{SourceFault}
-use Rattle.ds_asm.specs.Assembly.{Labels, Layout, empty_layout, address_of, with_line, with_lines, line_bytes, bytes_from, lines_of, assembled}
-use Rattle.ds_asm.specs.Faults.{size_in, fault_in, labels_past, layout_past, first_faults, second_faults, faults_by, all_faults, BeginsWith}
+use Rattle.ds_asm.specs.Assembly.{Labels, Layout, empty_layout, label_address, laid_line, laid_lines, line_bytes, bytes_from, lines_of, assembled}
+use Rattle.ds_asm.specs.Faults.{size_in, fault_in, labels_past, layout_past, first_faults, second_faults, faults_by, all_faults}
+use Rattle.ds_asm.specs.Inner.Faults.{BeginsWith}
 use Rattle.ds_asm.proofs.ImageSizes.{line_length}
 
 -- One line more.
 pub one_more : (xs more tail rest whole : List SourceFault) → rest ≡ more ++ tail → xs ++ rest ≡ whole → (xs ++ more) ++ tail ≡ whole
 one_more xs more tail rest whole e h = append_assoc xs more tail ∙ (ap (λ ys. xs ++ ys) (sym e) ∙ h)
 
-pub first_good : (n : ℕ) (m next : Layout) (text line after : List ℕ) → lines_of text ≡ line ∷ lines_of after → with_line n (line_of line) m ≡ Ok next
+pub first_good : (n : ℕ) (m next : Layout) (text line after : List ℕ) → lines_of text ≡ line ∷ lines_of after → laid_line n (line_of line) m ≡ Ok next
     → first_faults n m (lines_of text) ≡ first_faults (n + 1) next (lines_of after)
 first_good n m next text line after first said =
     ap (first_faults n m) first
     ∙ ap (λ r. option_to_list (fault_in r) ++ first_faults (n + 1) (layout_past r (labels_past n (line_of line) m)) (lines_of after)) said
 
-pub first_bad : (n : ℕ) (m : Layout) (fault : SourceFault) (text line after : List ℕ) → lines_of text ≡ line ∷ lines_of after → with_line n (line_of line) m ≡ Err fault
+pub first_bad : (n : ℕ) (m : Layout) (fault : SourceFault) (text line after : List ℕ) → lines_of text ≡ line ∷ lines_of after → laid_line n (line_of line) m ≡ Err fault
     → first_faults n m (lines_of text) ≡ fault ∷ [] ++ first_faults (n + 1) (record { labels = labels_past n (line_of line) m; size = 0 }) (lines_of after)
 first_bad n m fault text line after first said =
     ap (first_faults n m) first
@@ -39,23 +40,23 @@ second_end n find at (x ∷ xs) none = absurd (omega arith)
 
 -- Which fault is first.
 first_by : (n : ℕ) (r : Result Layout SourceFault) (labels : Labels) (lines : List (List ℕ)) (fault : SourceFault)
-    → ((next : Layout) → with_lines (n + 1) next lines ≡ Err fault → BeginsWith fault (first_faults (n + 1) next lines))
-    → (r >>= (λ more. with_lines (n + 1) more lines)) ≡ Err fault
+    → ((next : Layout) → laid_lines (n + 1) next lines ≡ Err fault → BeginsWith fault (first_faults (n + 1) next lines))
+    → (r >>= (λ more. laid_lines (n + 1) more lines)) ≡ Err fault
     → BeginsWith fault (option_to_list (fault_in r) ++ first_faults (n + 1) (layout_past r labels) lines)
 first_by n (Ok next) labels lines fault more h = more next h
 first_by n (Err e) labels lines fault more h =
     let same : e ≡ fault = cc in
     (first_faults (n + 1) (record { labels = labels; size = 0 }) lines, ap (λ x. x ∷ first_faults (n + 1) (record { labels = labels; size = 0 }) lines) same)
 
-first_told : (n : ℕ) (l : Layout) (lines : List (List ℕ)) (fault : SourceFault) → with_lines n l lines ≡ Err fault → BeginsWith fault (first_faults n l lines)
+first_told : (n : ℕ) (l : Layout) (lines : List (List ℕ)) (fault : SourceFault) → laid_lines n l lines ≡ Err fault → BeginsWith fault (first_faults n l lines)
 first_told n l [] fault h = cc
-first_told n l (line ∷ lines) fault h = first_by n (with_line n (line_of line) l) (labels_past n (line_of line) l) lines fault (λ next k. first_told (n + 1) next lines fault k) h
+first_told n l (line ∷ lines) fault h = first_by n (laid_line n (line_of line) l) (labels_past n (line_of line) l) lines fault (λ next k. first_told (n + 1) next lines fault k) h
 
 -- a source that the first pass lets in has none there
-pub first_none : (n : ℕ) (l last : Layout) (lines : List (List ℕ)) → with_lines n l lines ≡ Ok last → first_faults n l lines ≡ []
+pub first_none : (n : ℕ) (l last : Layout) (lines : List (List ℕ)) → laid_lines n l lines ≡ Ok last → first_faults n l lines ≡ []
 first_none n l last [] h = refl
 first_none n l last (line ∷ lines) h =
-    let (next, a, b) = bind_ok (with_line n (line_of line) l) (λ more. with_lines (n + 1) more lines) last h in
+    let (next, a, b) = bind_ok (laid_line n (line_of line) l) (λ more. laid_lines (n + 1) more lines) last h in
     ap (λ r. option_to_list (fault_in r) ++ first_faults (n + 1) (layout_past r (labels_past n (line_of line) l)) lines) a
     ∙ first_none (n + 1) next last lines b
 
@@ -96,32 +97,32 @@ second_none n at find bytes out (line ∷ lines) size h =
     ap (λ r. option_to_list (fault_in r) ++ second_faults (n + 1) find (at + size_in (line_of line)) lines) good
     ∙ second_none (n + 1) (at + size_in (line_of line)) find (bytes ++ more) out lines (omega (arith, length-append bytes more)) b
 
-faults_first : (r : Result Layout SourceFault) (lines : List (List ℕ)) (fault : SourceFault) → with_lines 1 empty_layout lines ≡ r
-    → (r >>= (λ layout. bytes_from 1 (address_of layout.labels) [] lines)) ≡ Err fault → BeginsWith fault (faults_by r lines)
-faults_first (Ok layout) lines fault is h = second_told 1 0 (address_of layout.labels) [] lines fault refl h
+faults_first : (r : Result Layout SourceFault) (lines : List (List ℕ)) (fault : SourceFault) → laid_lines 1 empty_layout lines ≡ r
+    → (r >>= (λ layout. bytes_from 1 (label_address layout.labels) [] lines)) ≡ Err fault → BeginsWith fault (faults_by r lines)
+faults_first (Ok layout) lines fault is h = second_told 1 0 (label_address layout.labels) [] lines fault refl h
 faults_first (Err e) lines fault is h = let same : e ≡ fault = cc in first_told 1 empty_layout lines fault (is ∙ ap (λ x. Err x) same)
 
 faults_none : (r : Result Layout SourceFault) (lines : List (List ℕ)) (image : List ℕ)
-    → (r >>= (λ layout. bytes_from 1 (address_of layout.labels) [] lines)) ≡ Ok image → faults_by r lines ≡ []
-faults_none (Ok layout) lines image h = second_none 1 0 (address_of layout.labels) [] image lines refl h
+    → (r >>= (λ layout. bytes_from 1 (label_address layout.labels) [] lines)) ≡ Ok image → faults_by r lines ≡ []
+faults_none (Ok layout) lines image h = second_none 1 0 (label_address layout.labels) [] image lines refl h
 faults_none (Err e) lines image h = cc
 
 -- the first of all faults is that of the source
 pub first_of_all : (text : List ℕ) (faults : List SourceFault) (fault : SourceFault) → faults ≡ all_faults text → assembled text ≡ Err fault → BeginsWith fault faults
-first_of_all text faults fault all h = subst (BeginsWith fault) (sym all) (faults_first (with_lines 1 empty_layout (lines_of text)) (lines_of text) fault refl h)
+first_of_all text faults fault all h = subst (BeginsWith fault) (sym all) (faults_first (laid_lines 1 empty_layout (lines_of text)) (lines_of text) fault refl h)
 
 pub none_of_all : (text : List ℕ) (faults : List SourceFault) (image : List ℕ) → faults ≡ all_faults text → assembled text ≡ Ok image → faults ≡ []
-none_of_all text faults image all h = all ∙ faults_none (with_lines 1 empty_layout (lines_of text)) (lines_of text) image h
+none_of_all text faults image all h = all ∙ faults_none (laid_lines 1 empty_layout (lines_of text)) (lines_of text) image h
 
 -- a source with faults in the first pass has that fault, and these are all
-refused_by : (r : Result Layout SourceFault) (lines : List (List ℕ)) (faults : List SourceFault) → with_lines 1 empty_layout lines ≡ r → faults ≡ first_faults 1 empty_layout lines → (faults ≡ [] → ⊥)
-    → (fault : SourceFault) × ((r >>= (λ layout. bytes_from 1 (address_of layout.labels) [] lines)) ≡ Err fault) × (faults ≡ faults_by r lines)
+refused_by : (r : Result Layout SourceFault) (lines : List (List ℕ)) (faults : List SourceFault) → laid_lines 1 empty_layout lines ≡ r → faults ≡ first_faults 1 empty_layout lines → (faults ≡ [] → ⊥)
+    → (fault : SourceFault) × ((r >>= (λ layout. bytes_from 1 (label_address layout.labels) [] lines)) ≡ Err fault) × (faults ≡ faults_by r lines)
 refused_by (Ok l) lines faults is all some = absurd (some (all ∙ first_none 1 empty_layout l lines is))
 refused_by (Err e) lines faults is all some = (e, refl, all)
 
 pub refused_first : (text : List ℕ) (faults : List SourceFault) → faults ≡ first_faults 1 empty_layout (lines_of text) → (faults ≡ [] → ⊥)
     → (fault : SourceFault) × (assembled text ≡ Err fault) × (faults ≡ all_faults text)
-refused_first text faults all some = refused_by (with_lines 1 empty_layout (lines_of text)) (lines_of text) faults refl all some
+refused_first text faults all some = refused_by (laid_lines 1 empty_layout (lines_of text)) (lines_of text) faults refl all some
 
 -- labels that are looked up alike give the same faults
 module _ (f g : List ℕ → Option ℕ) (alike : (n at : ℕ) (x : Option Line) → line_bytes n f at x ≡ line_bytes n g at x) where

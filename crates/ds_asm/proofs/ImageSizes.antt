@@ -7,18 +7,18 @@ use Rattle.ds_word.proofs.ResultBinding.{bind_ok}
 use Rattle.ds_word.specs.Bytes.{bytes_of_word}
 use Rattle.ds_word.specs.ResultBinding.{◌>>=◌}
 use Rattle.ds_asm.specs.Numbers.{as_word}
-use Rattle.ds_asm.specs.Operands.{Instruction, Target, Nowhere, BranchTo, JumpTo}
+use Rattle.ds_asm.specs.Operands.{Instruction, TargetLabel, Nowhere, BranchTo, JumpTo}
 use Rattle.ds_asm.specs.Lines.{Statement, Encoded, WordNumber, WordLabel, Byte, Space, Line, line_of}
 use Rattle.ds_asm.specs.declared.fault.SourceFault.{SourceFault}
 use Rattle.ds_asm.specs.Faults.{optional_size, size_in}
-use Rattle.ds_asm.specs.Assembly.{origin, most_bytes, size_of, is_in_range, is_aligned, Layout, labelled, sized, with_line, with_lines, resolved, known, word_bytes, statement_bytes, optional_bytes, line_bytes, bytes_from, address_of, empty_layout, lines_of, assembled}
+use Rattle.ds_asm.specs.Assembly.{origin, most_bytes, statement_size, is_in_range, is_word_aligned, Layout, labelled, sized, laid_line, laid_lines, resolved, known, word_bytes, statement_bytes, optional_bytes, line_bytes, bytes_from, label_address, empty_layout, lines_of, assembled}
 
 word_length : (r : Result ℕ SourceFault) (more : List ℕ) → word_bytes r ≡ Ok more → length more ≡ 4
 word_length (Ok w) more h = let same : bytes_of_word w ≡ more = cc in sym (ap length same)
 word_length (Err e) more h = cc
 
 -- a statement's bytes are as many as its size
-pub statement_length : (n : ℕ) (find : List ℕ → Option ℕ) (at : ℕ) (s : Statement) (more : List ℕ) → statement_bytes n find at s ≡ Ok more → length more ≡ size_of s
+pub statement_length : (n : ℕ) (find : List ℕ → Option ℕ) (at : ℕ) (s : Statement) (more : List ℕ) → statement_bytes n find at s ≡ Ok more → length more ≡ statement_size s
 statement_length n find at (Encoded i) more h = word_length (resolved n find (origin + at + 4) i i.target) more h
 statement_length n find at (WordNumber x) more h = word_length (Ok (as_word x)) more h
 statement_length n find at (WordLabel name) more h = word_length (known n (find name)) more h
@@ -26,14 +26,14 @@ statement_length n find at (Byte x) more h = let same : (as_word x % 2 ^ 8) ∷ 
 statement_length n find at (Space x) more h = let same : replicate x.magnitude 0 ≡ more = cc in sym (ap length same) ∙ length-replicate x.magnitude 0
 
 -- a statement that is let in makes the image longer by its size, and no longer than it may be
-sized_more : (n at : ℕ) (s : Statement) (size : ℕ) → sized n at (Some s) ≡ Ok size → (size ≡ at + size_of s) × (size ≤ 65536)
-sized_more n at s size h = elim (cases_Bool (is_in_range s && is_aligned at s)) [
+sized_more : (n at : ℕ) (s : Statement) (size : ℕ) → sized n at (Some s) ≡ Ok size → (size ≡ at + statement_size s) × (size ≤ 65536)
+sized_more n at s size h = elim (cases_Bool (is_in_range s && is_word_aligned at s)) [
   | inr bad ↦ let k = rw bad at h in cc
-  | inl good ↦ let k = rw good at h in elim (cases_Bool (nat_lt most_bytes (at + size_of s))) [
+  | inl good ↦ let k = rw good at h in elim (cases_Bool (nat_lt most_bytes (at + statement_size s))) [
     | inl long ↦ let j = rw long at k in cc
     | inr short ↦ let j = rw short at k in
-        let same : at + size_of s ≡ size = cc in
-        let room : at + size_of s ≤ most_bytes = ltb-false _ _ short in
+        let same : at + statement_size s ≡ size = cc in
+        let room : at + statement_size s ≤ most_bytes = ltb-false _ _ short in
         (sym same, omega arith)
   ]
 ]
@@ -43,7 +43,7 @@ optional_more : (n at : ℕ) (s : Option Statement) (size : ℕ) → at ≤ 6553
 optional_more n at None size few h = let same : at ≡ size = cc in (omega arith, omega arith)
 optional_more n at (Some s) size few h = sized_more n at s size h
 
-pub laid_size : (n : ℕ) (m next : Layout) (x : Option Line) → m.size ≤ 65536 → with_line n x m ≡ Ok next → (next.size ≡ m.size + size_in x) × (next.size ≤ 65536)
+pub laid_size : (n : ℕ) (m next : Layout) (x : Option Line) → m.size ≤ 65536 → laid_line n x m ≡ Ok next → (next.size ≡ m.size + size_in x) × (next.size ≤ 65536)
 laid_size n m next None few h = cc
 laid_size n m next (Some line) few h =
     let (labels, a, b) = bind_ok (labelled n m.size line.label m.labels) _ next h in
@@ -62,10 +62,10 @@ line_length n find at None more h = let e : [] ≡ more = cc in sym (ap (λ (xs 
 line_length n find at (Some line) more h = optional_length n find at line.statement more h
 
 pub bytes_fit : (n : ℕ) (find : List ℕ → Option ℕ) (m last : Layout) (bytes out : List ℕ) (lines : List (List ℕ)) → length bytes ≡ m.size → m.size ≤ 65536
-    → with_lines n m lines ≡ Ok last → bytes_from n find bytes lines ≡ Ok out → length out ≤ 65536
+    → laid_lines n m lines ≡ Ok last → bytes_from n find bytes lines ≡ Ok out → length out ≤ 65536
 bytes_fit n find m last bytes out [] same few h k = let e : bytes ≡ out = cc in let l : length bytes ≡ length out = ap (λ (xs : List ℕ). length xs) e in omega arith
 bytes_fit n find m last bytes out (line ∷ lines) same few h k =
-    let (next, a, b) = bind_ok (with_line n (line_of line) m) (λ more. with_lines (n + 1) more lines) last h in
+    let (next, a, b) = bind_ok (laid_line n (line_of line) m) (λ more. laid_lines (n + 1) more lines) last h in
     let (more, c, d) = bind_ok (line_bytes n find (length bytes) (line_of line)) (λ more. bytes_from (n + 1) find (bytes ++ more) lines) out k in
     let (grown, room) = laid_size n m next (line_of line) few a in
     let long = line_length n find (length bytes) (line_of line) more c in
@@ -73,7 +73,7 @@ bytes_fit n find m last bytes out (line ∷ lines) same few h k =
 
 -- Labels that are looked up alike.
 module _ (f g : List ℕ → Option ℕ) (alike : (name : List ℕ) → f name ≡ g name) where
-  resolved_alike : (n slot : ℕ) (i : Instruction) (t : Target) → resolved n f slot i t ≡ resolved n g slot i t
+  resolved_alike : (n slot : ℕ) (i : Instruction) (t : TargetLabel) → resolved n f slot i t ≡ resolved n g slot i t
   resolved_alike n slot i Nowhere = refl
   resolved_alike n slot i (BranchTo name) = rw (alike name) refl
   resolved_alike n slot i (JumpTo name) = rw (alike name) refl
@@ -104,8 +104,8 @@ module _ (f g : List ℕ → Option ℕ) (alike : (name : List ℕ) → f name �
       ∙ through_ok (line_bytes n g (length bytes) (line_of line)) _ _ (λ more. bytes_alike (n + 1) (bytes ++ more) lines)
 
 -- what a source says once its labels are held
-pub assembled_by : (text : List ℕ) (l : Layout) (find : List ℕ → Option ℕ) → with_lines 1 empty_layout (lines_of text) ≡ Ok l → ((name : List ℕ) → find name ≡ address_of l.labels name)
+pub assembled_by : (text : List ℕ) (l : Layout) (find : List ℕ → Option ℕ) → laid_lines 1 empty_layout (lines_of text) ≡ Ok l → ((name : List ℕ) → find name ≡ label_address l.labels name)
     → assembled text ≡ bytes_from 1 find [] (lines_of text)
 assembled_by text l find said alike =
-    ap (λ r. r >>= (λ layout. bytes_from 1 (address_of layout.labels) [] (lines_of text))) said
-    ∙ bytes_alike (address_of l.labels) find (λ name. sym (alike name)) 1 [] (lines_of text)
+    ap (λ r. r >>= (λ layout. bytes_from 1 (label_address layout.labels) [] (lines_of text))) said
+    ∙ bytes_alike (label_address l.labels) find (λ name. sym (alike name)) 1 [] (lines_of text)

@@ -3,7 +3,7 @@ use Rattle.std.proofs.Common.{◌≡◌, inl, inr, ◌∙◌, sym, ap, refl, ℕ
 use Rattle.std.proofs.lemmas.Bool.{cases_Bool, ltb-true, ltb-false}
 use Rattle.std.proofs.lemmas.List.{drop_all, take-append-le, take-replicate, drop-replicate, take_all, take_rest}
 use Rattle.std.proofs.Math.Seq.{take-append-add}
-use Rattle.ds_asm.specs.Images.{part_of}
+use Rattle.ds_asm.specs.Images.{page_of_image}
 
 -- past the end there is nothing
 drop-min : (a : ℕ) (xs : List ℕ) → drop (min a (length xs)) xs ≡ drop a xs
@@ -35,7 +35,7 @@ pub part_of-filled : (image : List ℕ) (k : ℕ) (start count : ℕ) (page fron
     → count ≡ min (length (take (length image - start) (drop start image))) 4096
     → front ≡ take count (take (length image - start) (drop start image))
     → page ≡ replicate 4096 0
-    → front ++ drop count page ≡ part_of image k
+    → front ++ drop count page ≡ page_of_image image k
 part_of-filled image k start count page front s n f z =
     let r : take (length image - start) (drop start image) ≡ drop (4096 * k) image = take_rest image start ∙ (ap (λ (a : ℕ). drop a image) s ∙ drop-min (4096 * k) image) in
     rw (f, z, n, r) (front_padded 4096 (drop (4096 * k) image))

@@ -8,8 +8,8 @@ use Rattle.ds_word.specs.ResultBinding.{◌>>=◌}
 use Rattle.ds_asm.specs.declared.fault.AsmFault.{AsmFault}
 use Rattle.ds_asm.specs.declared.fault.AsmFault.TheVariants as asm
 use Rattle.ds_asm.specs.declared.fault.SourceFault.{SourceFault}
-use Rattle.ds_asm.specs.Assembly.{without_empty_last, lines_of, origin, Labels, address_of, Layout, labelled, sized, with_line, with_lines, line_bytes, bytes_from}
-use Rattle.ds_asm.specs.Assembling.{Fails}
+use Rattle.ds_asm.specs.Assembly.{without_empty_last, lines_of, origin, Labels, label_address, Layout, labelled, sized, laid_line, laid_lines, line_bytes, bytes_from}
+use Rattle.ds_asm.specs.Inner.Assembling.{Fails}
 use Rattle.ds_asm.specs.Lines.{Line, line_of}
 
 -- a list in which no element passes is one part
@@ -61,15 +61,15 @@ fails_bind (asm.Source fault) r f p = ap (λ x. x >>= f) p
 fails_bind asm.Memory r f p = tt
 
 -- The first pass.
-pub layout_good : (n : ℕ) (m next : Layout) (text line after : List ℕ) → lines_of text ≡ line ∷ lines_of after → with_line n (line_of line) m ≡ Ok next
-    → with_lines n m (lines_of text) ≡ with_lines (n + 1) next (lines_of after)
-layout_good n m next text line after first said = ap (with_lines n m) first ∙ ap (λ r. r >>= (λ more. with_lines (n + 1) more (lines_of after))) said
+pub layout_good : (n : ℕ) (m next : Layout) (text line after : List ℕ) → lines_of text ≡ line ∷ lines_of after → laid_line n (line_of line) m ≡ Ok next
+    → laid_lines n m (lines_of text) ≡ laid_lines (n + 1) next (lines_of after)
+layout_good n m next text line after first said = ap (laid_lines n m) first ∙ ap (λ r. r >>= (λ more. laid_lines (n + 1) more (lines_of after))) said
 
-pub layout_bad : (e : AsmFault) (n : ℕ) (m : Layout) (text line after : List ℕ) → lines_of text ≡ line ∷ lines_of after → Fails e (with_line n (line_of line) m)
-    → Fails e (with_lines n m (lines_of text))
-layout_bad e n m text line after first said = rw first (fails_bind e (with_line n (line_of line) m) (λ more. with_lines (n + 1) more (lines_of after)) said)
+pub layout_bad : (e : AsmFault) (n : ℕ) (m : Layout) (text line after : List ℕ) → lines_of text ≡ line ∷ lines_of after → Fails e (laid_line n (line_of line) m)
+    → Fails e (laid_lines n m (lines_of text))
+layout_bad e n m text line after first said = rw first (fails_bind e (laid_line n (line_of line) m) (λ more. laid_lines (n + 1) more (lines_of after)) said)
 
-pub layout_end : (n : ℕ) (m : Layout) (text : List ℕ) → length text ≡ 0 → with_lines n m (lines_of text) ≡ Ok m
+pub layout_end : (n : ℕ) (m : Layout) (text : List ℕ) → length text ≡ 0 → laid_lines n m (lines_of text) ≡ Ok m
 layout_end n m [] none = refl
 layout_end n m (x ∷ xs) none = absurd (omega arith)
 
@@ -87,23 +87,23 @@ bytes_end n find bytes [] none = refl
 bytes_end n find bytes (x ∷ xs) none = absurd (omega arith)
 
 -- a label that stands nowhere before is taken
-pub labelled_new : (n at : ℕ) (label : Option (List ℕ)) (name : List ℕ) (labels : Labels) → label ≡ Some name → is_some (address_of labels name) ≡ false → labelled n at label labels ≡ Ok ((name, origin + at) ∷ labels)
+pub labelled_new : (n at : ℕ) (label : Option (List ℕ)) (name : List ℕ) (labels : Labels) → label ≡ Some name → is_some (label_address labels name) ≡ false → labelled n at label labels ≡ Ok ((name, origin + at) ∷ labels)
 labelled_new n at label name labels p q = rw (p, q) refl
 
 -- a line whose label and statement are good is
 pub line_laid : (n at after : ℕ) (x : Option Line) (line : Line) (l : Layout) (labels : Labels) (size : ℕ) → x ≡ Some line → at ≡ l.size → labelled n at line.label l.labels ≡ Ok labels
-    → after ≡ l.size → sized n after line.statement ≡ Ok size → with_line n x l ≡ Ok (record { labels = labels; size = size })
+    → after ≡ l.size → sized n after line.statement ≡ Ok size → laid_line n x l ≡ Ok (record { labels = labels; size = size })
 line_laid n at after x line l labels size p e q f r =
     let q2 = subst (λ (k : ℕ). labelled n k line.label l.labels ≡ Ok labels) e q in
     let r2 = subst (λ (k : ℕ). sized n k line.statement ≡ Ok size) f r in
     rw (p, q2, r2) refl
 
 -- and one whose label or statement isn't is not
-pub label_fails : (e : AsmFault) (n at : ℕ) (x : Option Line) (line : Line) (l : Layout) → x ≡ Some line → at ≡ l.size → Fails e (labelled n at line.label l.labels) → Fails e (with_line n x l)
+pub label_fails : (e : AsmFault) (n at : ℕ) (x : Option Line) (line : Line) (l : Layout) → x ≡ Some line → at ≡ l.size → Fails e (labelled n at line.label l.labels) → Fails e (laid_line n x l)
 label_fails e n at x line l p f h = rw p (fails_bind e (labelled n l.size line.label l.labels) _ (subst (λ (k : ℕ). Fails e (labelled n k line.label l.labels)) f h))
 
 pub statement_fails : (e : AsmFault) (n at after : ℕ) (x : Option Line) (line : Line) (l : Layout) (labels : Labels) → x ≡ Some line → at ≡ l.size → labelled n at line.label l.labels ≡ Ok labels
-    → after ≡ l.size → Fails e (sized n after line.statement) → Fails e (with_line n x l)
+    → after ≡ l.size → Fails e (sized n after line.statement) → Fails e (laid_line n x l)
 statement_fails e n at after x line l labels p f q g h =
     let q2 = subst (λ (k : ℕ). labelled n k line.label l.labels ≡ Ok labels) f q in
     rw (p, q2) (fails_bind e (sized n l.size line.statement) _ (subst (λ (k : ℕ). Fails e (sized n k line.statement)) g h))

@@ -3,7 +3,8 @@ use Rattle.std.proofs.Common.{◌≡◌, ◌∙◌, ap, sym, refl, inl, inr, ℕ
 use Rattle.std.specs.List.{filter, find}
 use Rattle.std.proofs.lemmas.Bool.{cases_Bool}
 use Rattle.ds_asm.specs.declared.form.Form.{Form}
-use Rattle.ds_asm.specs.Forms.{Written, written_of, written_forms, begins_with, forms_with, form_named}
+use Rattle.ds_asm.specs.Forms.{Written, written_forms, begins_with, form_named}
+use Rattle.ds_asm.specs.Inner.Forms.{written_of, forms_with}
 
 find_written : (name : List ℕ) (fs : List Form) → option_map written_of (find (λ f. bytes_eq f.name.now name) fs) ≡ find (λ f. bytes_eq f.name name) (map written_of fs)
 find_written name [] = refl

@@ -12,8 +12,8 @@ use Rattle.ds_asm.specs.declared.cause.Cause.TheVariants.{OutOfRange, NotAligned
 use Rattle.ds_asm.specs.declared.fault.SourceFault.{SourceFault}
 use Rattle.ds_asm.specs.declared.fault.SourceFault.TheVariants.{Syntax, UnknownLabel, DoubleLabel, Range, TooLong}
 use Rattle.ds_asm.specs.declared.number.Bounds.{Bounds}
-use Rattle.ds_asm.specs.Numbers.{is_within, out_of_range, as_word}
-use Rattle.ds_asm.specs.Operands.{Instruction, Target, Nowhere, BranchTo, JumpTo, with_value}
+use Rattle.ds_asm.specs.Numbers.{fits_bounds, out_of_range, as_word}
+use Rattle.ds_asm.specs.Operands.{Instruction, TargetLabel, Nowhere, BranchTo, JumpTo, with_value}
 use Rattle.ds_asm.specs.Lines.{Statement, Encoded, WordNumber, WordLabel, Byte, Space, Line, line_of}
 
 -- the pieces without an empty last one, which is no line
@@ -40,9 +40,9 @@ abbrev pub Labels : Type 0
 Labels = List (List ℕ × ℕ)
 
 -- the address of a name, if it is a label
-abbrev pub address_of : Labels → List ℕ → Option ℕ
-address_of [] name = None
-address_of (l ∷ labels) name = if bytes_eq l.0 name then Some l.1 else address_of labels name
+abbrev pub label_address : Labels → List ℕ → Option ℕ
+label_address [] name = None
+label_address (l ∷ labels) name = if bytes_eq l.0 name then Some l.1 else label_address labels name
 
 -- The first pass: where labels stand, and whether everything fits.
 abbrev pub is_reserved : Instr → Bool
@@ -54,28 +54,28 @@ unfoldable pub is_reserved_word : ℕ → Bool
 is_reserved_word w = is_reserved (instruction_of w)
 
 -- how many bytes a statement has
-abbrev pub size_of : Statement → ℕ
-size_of (Encoded i) = 4
-size_of (WordNumber n) = 4
-size_of (WordLabel name) = 4
-size_of (Byte n) = 1
-size_of (Space n) = n.magnitude
+abbrev pub statement_size : Statement → ℕ
+statement_size (Encoded i) = 4
+statement_size (WordNumber n) = 4
+statement_size (WordLabel name) = 4
+statement_size (Byte n) = 1
+statement_size (Space n) = n.magnitude
 
 -- whether a statement's numbers and registers are in range
 abbrev pub is_in_range : Statement → Bool
 is_in_range (Encoded i) = is_none i.out_of_range && not (is_reserved_word i.word)
-is_in_range (WordNumber n) = is_within 2147483648 4294967295 n
+is_in_range (WordNumber n) = fits_bounds 2147483648 4294967295 n
 is_in_range (WordLabel name) = true
-is_in_range (Byte n) = is_within 128 255 n
-is_in_range (Space n) = is_within 0 most_bytes n
+is_in_range (Byte n) = fits_bounds 128 255 n
+is_in_range (Space n) = fits_bounds 0 most_bytes n
 
 -- words stand at multiples of four
-abbrev pub is_aligned : ℕ → Statement → Bool
-is_aligned at (Byte n) = true
-is_aligned at (Space n) = true
-is_aligned at (Encoded i) = at % 4 == 0
-is_aligned at (WordNumber n) = at % 4 == 0
-is_aligned at (WordLabel name) = at % 4 == 0
+abbrev pub is_word_aligned : ℕ → Statement → Bool
+is_word_aligned at (Byte n) = true
+is_word_aligned at (Space n) = true
+is_word_aligned at (Encoded i) = at % 4 == 0
+is_word_aligned at (WordNumber n) = at % 4 == 0
+is_word_aligned at (WordLabel name) = at % 4 == 0
 
 -- the bounds of a statement's first number that is out of range
 abbrev pub bounds_in : Statement → Option Bounds
@@ -92,7 +92,7 @@ cause_by at None = if at % 4 == 0 then Reserved else NotAligned
 
 -- why a statement may not stand at a place of the image, if it may not
 abbrev pub cause_at : ℕ → Statement → Option Cause
-cause_at at s = if is_in_range s && is_aligned at s then None else Some (cause_by at (bounds_in s))
+cause_at at s = if is_in_range s && is_word_aligned at s then None else Some (cause_by at (bounds_in s))
 
 -- the labels so far, and the size of the image so far
 pub record Layout : Type 0 where
@@ -106,7 +106,7 @@ empty_layout = record { labels = []; size = 0 }
 -- the labels with one that stands at a place of the image
 abbrev pub labelled : ℕ → ℕ → Option (List ℕ) → Labels → Result Labels SourceFault
 labelled n at None labels = Ok labels
-labelled n at (Some name) labels = if is_some (address_of labels name) then Err (DoubleLabel n) else Ok ((name, origin + at) ∷ labels)
+labelled n at (Some name) labels = if is_some (label_address labels name) then Err (DoubleLabel n) else Ok ((name, origin + at) ∷ labels)
 
 -- this size of the image, unless it is too much, or there is a cause against its last statement
 abbrev pub sized_by : ℕ → ℕ → Option Cause → Result ℕ SourceFault
@@ -116,17 +116,17 @@ sized_by n size None = if nat_lt most_bytes size then Err (TooLong n) else Ok si
 -- the size of the image with a statement
 abbrev pub sized : ℕ → ℕ → Option Statement → Result ℕ SourceFault
 sized n at None = Ok at
-sized n at (Some s) = sized_by n (at + size_of s) (cause_at at s)
+sized n at (Some s) = sized_by n (at + statement_size s) (cause_at at s)
 
 -- the layout with what line n says, which is none where it has no meaning
-abbrev pub with_line : ℕ → Option Line → Layout → Result Layout SourceFault
-with_line n None l = Err (Syntax n)
-with_line n (Some line) l = labelled n l.size line.label l.labels >>= (λ labels. sized n l.size line.statement >>= (λ size. Ok (record { labels = labels; size = size })))
+abbrev pub laid_line : ℕ → Option Line → Layout → Result Layout SourceFault
+laid_line n None l = Err (Syntax n)
+laid_line n (Some line) l = labelled n l.size line.label l.labels >>= (λ labels. sized n l.size line.statement >>= (λ size. Ok (record { labels = labels; size = size })))
 
 -- with lines of which the first is line n
-abbrev pub with_lines : ℕ → Layout → List (List ℕ) → Result Layout SourceFault
-with_lines n l [] = Ok l
-with_lines n l (line ∷ lines) = with_line n (line_of line) l >>= (λ more. with_lines (n + 1) more lines)
+abbrev pub laid_lines : ℕ → Layout → List (List ℕ) → Result Layout SourceFault
+laid_lines n l [] = Ok l
+laid_lines n l (line ∷ lines) = laid_line n (line_of line) l >>= (λ more. laid_lines (n + 1) more lines)
 
 -- The second pass: bytes.
 
@@ -147,15 +147,15 @@ known n None = Err (UnknownLabel n)
 known n (Some address) = Ok address
 
 -- the field of a label, or the fault that it is out of reach
-abbrev pub reached : ℕ → Option ℕ → Result ℕ SourceFault
-reached n None = Err (Range n)
-reached n (Some field) = Ok field
+abbrev pub reachable_field : ℕ → Option ℕ → Result ℕ SourceFault
+reachable_field n None = Err (Range n)
+reachable_field n (Some field) = Ok field
 
 -- the word of an instruction whose slot has an address; find gives those of labels
-abbrev pub resolved : ℕ → (List ℕ → Option ℕ) → ℕ → Instruction → Target → Result ℕ SourceFault
+abbrev pub resolved : ℕ → (List ℕ → Option ℕ) → ℕ → Instruction → TargetLabel → Result ℕ SourceFault
 resolved n find slot i Nowhere = Ok i.word
-resolved n find slot i (BranchTo name) = known n (find name) >>= (λ a. reached n (branch_field slot a) >>= (λ f. Ok (with_value imm f i).word))
-resolved n find slot i (JumpTo name) = known n (find name) >>= (λ a. reached n (jump_field slot a) >>= (λ f. Ok (with_value target f i).word))
+resolved n find slot i (BranchTo name) = known n (find name) >>= (λ a. reachable_field n (branch_field slot a) >>= (λ f. Ok (with_value imm f i).word))
+resolved n find slot i (JumpTo name) = known n (find name) >>= (λ a. reachable_field n (jump_field slot a) >>= (λ f. Ok (with_value target f i).word))
 
 -- the bytes of a word, or its fault
 abbrev pub word_bytes : Result ℕ SourceFault → Result (List ℕ) SourceFault
@@ -186,4 +186,4 @@ bytes_from n find bytes (line ∷ lines) = line_bytes n find (length bytes) (lin
 
 -- what a source says
 abbrev pub assembled : List ℕ → Result (List ℕ) SourceFault
-assembled text = with_lines 1 empty_layout (lines_of text) >>= (λ layout. bytes_from 1 (address_of layout.labels) [] (lines_of text))
+assembled text = laid_lines 1 empty_layout (lines_of text) >>= (λ layout. bytes_from 1 (label_address layout.labels) [] (lines_of text))

@@ -36,5 +36,5 @@ abbrev pub until : ℕ → List ℕ → List ℕ
 until c text = before_first (λ b. b == c) text
 
 -- what stands after the first of these characters, if there is one
-abbrev pub after : ℕ → List ℕ → Option (List ℕ)
-after c text = if nat_lt (position_or_len (λ b. b == c) text) (length text) then Some (after_first (λ b. b == c) text) else None
+abbrev pub text_after : ℕ → List ℕ → Option (List ℕ)
+text_after c text = if nat_lt (position_or_len (λ b. b == c) text) (length text) then Some (after_first (λ b. b == c) text) else None

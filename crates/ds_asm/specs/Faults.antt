@@ -1,11 +1,9 @@
 -- All faults of a source.
-use Rattle.std.specs.Prelude.{◌≡◌, ℕ, ◌+◌, List, [], ◌∷◌, ◌++◌, Option, Some, None, Result, Ok, Err}
+use Rattle.std.specs.Prelude.{ℕ, ◌+◌, List, [], ◌∷◌, ◌++◌, Option, Some, None, Result, Ok, Err}
 use Rattle.std.specs.Option.{option_to_list}
 use Rattle.ds_asm.specs.declared.fault.SourceFault.{SourceFault}
-use Rattle.ds_asm.specs.declared.faults.Assembled.{Assembled}
-use Rattle.ds_asm.specs.declared.faults.Assembled.TheVariants as came
 use Rattle.ds_asm.specs.Lines.{Statement, Line, line_of}
-use Rattle.ds_asm.specs.Assembly.{Labels, Layout, empty_layout, address_of, size_of, labelled, with_line, with_lines, line_bytes, lines_of, assembled}
+use Rattle.ds_asm.specs.Assembly.{Labels, Layout, empty_layout, label_address, statement_size, labelled, laid_line, laid_lines, line_bytes, lines_of}
 
 -- the label of a line, if it can be read and has one
 abbrev pub label_in : Option Line → Option (List ℕ)
@@ -15,7 +13,7 @@ label_in (Some line) = line.label
 -- how many bytes a statement has, where there is one
 abbrev pub optional_size : Option Statement → ℕ
 optional_size None = 0
-optional_size (Some s) = size_of s
+optional_size (Some s) = statement_size s
 
 -- how many bytes a line has; one that can't be read has none
 abbrev pub size_in : Option Line → ℕ
@@ -47,8 +45,8 @@ layout_past (Err fault) labels = record { labels = labels; size = 0 }
 abbrev pub first_faults : ℕ → Layout → List (List ℕ) → List SourceFault
 first_faults n l [] = []
 first_faults n l (line ∷ lines) =
-    option_to_list (fault_in (with_line n (line_of line) l))
-    ++ first_faults (n + 1) (layout_past (with_line n (line_of line) l) (labels_past n (line_of line) l)) lines
+    option_to_list (fault_in (laid_line n (line_of line) l))
+    ++ first_faults (n + 1) (layout_past (laid_line n (line_of line) l) (labels_past n (line_of line) l)) lines
 
 -- their faults in the second pass, of which the first line stands at a place of the image
 abbrev pub second_faults : ℕ → (List ℕ → Option ℕ) → ℕ → List (List ℕ) → List SourceFault
@@ -59,18 +57,9 @@ second_faults n find at (line ∷ lines) =
 
 -- the faults of the second pass over what the first has laid out, or those of the first
 abbrev pub faults_by : Result Layout SourceFault → List (List ℕ) → List SourceFault
-faults_by (Ok layout) lines = second_faults 1 (address_of layout.labels) 0 lines
+faults_by (Ok layout) lines = second_faults 1 (label_address layout.labels) 0 lines
 faults_by (Err fault) lines = first_faults 1 empty_layout lines
 
 -- all faults of a source: those of the first pass, or, where it has none, those of the second
 abbrev pub all_faults : List ℕ → List SourceFault
-all_faults text = faults_by (with_lines 1 empty_layout (lines_of text)) (lines_of text)
-
--- this is the first of the faults
-abbrev pub BeginsWith : SourceFault → List SourceFault → Type 0
-BeginsWith fault faults = (others : List SourceFault) × (faults ≡ fault ∷ others)
-
--- what comes of a source is its image, or all its faults, of which it has one at least
-abbrev pub ComesOf : List ℕ → Assembled → Type 0
-ComesOf text (came.Image image) = assembled text ≡ Ok image
-ComesOf text (came.Faults faults) = (fault : SourceFault) × (assembled text ≡ Err fault) × (faults.items ≡ all_faults text)
+all_faults text = faults_by (laid_lines 1 empty_layout (lines_of text)) (lines_of text)

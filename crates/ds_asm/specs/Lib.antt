@@ -4,10 +4,9 @@ pub mod RegisterNames
 pub mod Forms
 pub mod Operands
 pub mod Lines
-pub mod Plain
 pub mod Assembly
 pub mod Assembling
 pub mod Faults
 pub mod Images
-pub mod OnLiterals
-pub mod Worked
+pub mod Inner
+pub mod Rows

@@ -3,10 +3,10 @@ use Rattle.std.specs.Prelude.{codes, ℕ, bytes_eq, if◌then◌else◌, List, [
 use Rattle.std.specs.List.{position_or_len, before_first}
 use Rattle.ds_word.specs.OptionBinding.{◌>>=◌}
 use Rattle.ds_asm.specs.declared.number.Number.{Number}
-use Rattle.ds_asm.specs.Characters.{is_blank, is_name, without_front_blanks, trimmed, until, after}
-use Rattle.ds_asm.specs.Numbers.{number_of}
+use Rattle.ds_asm.specs.Characters.{is_blank, is_name, without_front_blanks, trimmed, until, text_after}
+use Rattle.ds_asm.specs.Numbers.{written_number}
 use Rattle.ds_asm.specs.Forms.{form_named}
-use Rattle.ds_asm.specs.Operands.{Instruction, bare, with_operands}
+use Rattle.ds_asm.specs.Operands.{Instruction, without_operands, with_operands}
 
 -- an instruction, a word by its number or its label, a byte, or a number of zero bytes
 pub data Statement : Type 0 where
@@ -44,14 +44,14 @@ number_word None text = label_word text
 
 -- an instruction of its form's name, with its operands
 abbrev pub instruction_named : List ℕ → Option (List ℕ) → Option Instruction
-instruction_named name left = form_named name >>= (λ f. with_operands f.operands left (bare f.word))
+instruction_named name left = form_named name >>= (λ f. with_operands f.operands left (without_operands f.word))
 
 -- the statement of a mnemonic and of what stands after it
 unfoldable pub statement_named : List ℕ → Option (List ℕ) → Option Statement
 statement_named name left =
-    if bytes_eq name (codes ".word") then left >>= (λ text. number_word (number_of text) text)
-    else if bytes_eq name (codes ".byte") then left >>= (λ text. option_map (λ n. Byte n) (number_of text))
-    else if bytes_eq name (codes ".space") then left >>= (λ text. option_map (λ n. Space n) (number_of text))
+    if bytes_eq name (codes ".word") then left >>= (λ text. number_word (written_number text) text)
+    else if bytes_eq name (codes ".byte") then left >>= (λ text. option_map (λ n. Byte n) (written_number text))
+    else if bytes_eq name (codes ".space") then left >>= (λ text. option_map (λ n. Space n) (written_number text))
     else option_map (λ i. Encoded i) (instruction_named name left)
 
 -- the statement that a text is, if it is one
@@ -79,11 +79,7 @@ with_label text (Some rest) = if is_name (until 58 text) then with_statement (So
 
 -- the label and the statement of a text, which a colon parts
 abbrev pub line_parts : List ℕ → Option Line
-line_parts text = with_label text (after 58 text)
-
--- a line that says nothing
-abbrev pub nothing : Line
-nothing = record { label = None; statement = None }
+line_parts text = with_label text (text_after 58 text)
 
 -- what a line says, up to its comment
 unfoldable pub line_of : List ℕ → Option Line

@@ -17,19 +17,19 @@ abbrev pub unsigned_of : List ℕ → Option ℕ
 unsigned_of text = if bytes_eq (take 2 text) (codes "0x") then hexadecimal_of (drop 2 text) else decimal_of text
 
 -- decimal digits, with a sign before them or none; or hexadecimal digits
-abbrev pub number_of : List ℕ → Option Number
-number_of [] = None
-number_of (c ∷ rest) =
+abbrev pub written_number : List ℕ → Option Number
+written_number [] = None
+written_number (c ∷ rest) =
     if c == 45 then option_map (λ n. record { negative = true; magnitude = n }) (decimal_of rest)
     else option_map (λ n. record { negative = false; magnitude = n }) (unsigned_of (c ∷ rest))
 
 -- a number isn't below -least, nor above most
-abbrev pub is_within : ℕ → ℕ → Number → Bool
-is_within least most n = if n.negative then nat_le n.magnitude least else nat_le n.magnitude most
+abbrev pub fits_bounds : ℕ → ℕ → Number → Bool
+fits_bounds least most n = if n.negative then nat_le n.magnitude least else nat_le n.magnitude most
 
 -- the bounds of a number, unless it is from -least to most
 abbrev pub out_of_range : ℕ → ℕ → Number → Option Bounds
-out_of_range least most n = if is_within least most n then None else Some (record { least = least; most = most })
+out_of_range least most n = if fits_bounds least most n then None else Some (record { least = least; most = most })
 
 -- a number as a word, in two's complement
 abbrev pub as_word : Number → ℕ

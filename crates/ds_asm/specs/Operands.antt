@@ -7,26 +7,26 @@ use Rattle.ds_word.specs.Word.{word}
 use Rattle.ds_isa.specs.Fields.{Field, rd, Operand, Register, LinkRegister, SystemRegister, Number, Code, Signed, Branch, Jump, Indexed}
 use Rattle.ds_asm.specs.declared.number.Number as code
 use Rattle.ds_asm.specs.declared.number.Bounds.{Bounds}
-use Rattle.ds_asm.specs.Characters.{is_name, trimmed, until, after}
-use Rattle.ds_asm.specs.Numbers.{out_of_range, number_of, as_word}
+use Rattle.ds_asm.specs.Characters.{is_name, trimmed, until, text_after}
+use Rattle.ds_asm.specs.Numbers.{out_of_range, written_number, as_word}
 use Rattle.ds_asm.specs.RegisterNames.{register_of, system_register_of}
 
 -- the label that an instruction goes to, if it does
-pub data Target : Type 0 where
-  Nowhere : Target
-  BranchTo : (name : List ℕ) → Target
-  JumpTo : (name : List ℕ) → Target
+pub data TargetLabel : Type 0 where
+  Nowhere : TargetLabel
+  BranchTo : (name : List ℕ) → TargetLabel
+  JumpTo : (name : List ℕ) → TargetLabel
 
 -- what the text of an instruction says: its word with 0 in the place of a label, the bounds of its
 -- first number that is out of range, and its label
 pub record Instruction : Type 0 where
   pub word : ℕ
   pub out_of_range : Option Bounds
-  pub target : Target
+  pub target : TargetLabel
 
 -- an instruction without operands
-abbrev pub bare : ℕ → Instruction
-bare w = record { word = w; out_of_range = None; target = Nowhere }
+abbrev pub without_operands : ℕ → Instruction
+without_operands w = record { word = w; out_of_range = None; target = Nowhere }
 
 -- with a value added in a field, cut to the field's width
 abbrev pub with_value : Field → ℕ → Instruction → Instruction
@@ -37,7 +37,7 @@ abbrev pub with_number : Field → ℕ → ℕ → code.Number → Instruction �
 with_number f least most n i = record (with_value f (as_word n) i) { out_of_range = option_or i.out_of_range (out_of_range least most n) }
 
 -- with the label that it goes to
-abbrev pub with_target : Target → Instruction → Instruction
+abbrev pub with_target : TargetLabel → Instruction → Instruction
 with_target t i = record i { target = t }
 
 -- with the number of a register in a field, if there is one
@@ -46,15 +46,15 @@ with_register f r i = option_map (λ n. with_value f n i) r
 
 -- with a number from 0 up to the greatest that a field holds
 abbrev pub with_unsigned : Field → List ℕ → Instruction → Option Instruction
-with_unsigned f text i = option_map (λ n. with_number f 0 (2 ^ f.width - 1) n i) (number_of text)
+with_unsigned f text i = option_map (λ n. with_number f 0 (2 ^ f.width - 1) n i) (written_number text)
 
 -- with a number that a field holds in two's complement
 abbrev pub with_signed : Field → List ℕ → Instruction → Option Instruction
-with_signed f text i = option_map (λ n. with_number f (2 ^ (f.width - 1)) (2 ^ (f.width - 1) - 1) n i) (number_of text)
+with_signed f text i = option_map (λ n. with_number f (2 ^ (f.width - 1)) (2 ^ (f.width - 1) - 1) n i) (written_number text)
 
 -- with a label as the target
-abbrev pub with_label : (List ℕ → Target) → List ℕ → Instruction → Option Instruction
-with_label make text i = if is_name text then Some (with_target (make text) i) else None
+abbrev pub with_label_operand : (List ℕ → TargetLabel) → List ℕ → Instruction → Option Instruction
+with_label_operand make text i = if is_name text then Some (with_target (make text) i) else None
 
 -- what stands before the parenthesis at the end
 abbrev pub before_close : List ℕ → Option (List ℕ)
@@ -63,7 +63,7 @@ before_close text = if slice_index text (length text - 1) == 41 then Some (take 
 -- an offset, and in parentheses after it the register of the base
 unfoldable pub with_indexed : Field → Field → List ℕ → Instruction → Option Instruction
 with_indexed base offset text i = do
-  rest ← after 40 text
+  rest ← text_after 40 text
   inner ← before_close rest
   register ← register_of (trimmed inner)
   with_signed offset (trimmed (until 40 text)) (with_value base register i)
@@ -76,8 +76,8 @@ with_operand (SystemRegister f) text i = with_register f (system_register_of tex
 with_operand (Number f) text i = with_unsigned f text i
 with_operand (Code f) text i = with_unsigned f text i
 with_operand (Signed f) text i = with_signed f text i
-with_operand (Branch f) text i = with_label BranchTo text i
-with_operand (Jump f) text i = with_label JumpTo text i
+with_operand (Branch f) text i = with_label_operand BranchTo text i
+with_operand (Jump f) text i = with_label_operand JumpTo text i
 with_operand (Indexed base offset) text i = with_indexed base offset text i
 
 -- whether an operand is a code, which may be left out
@@ -96,7 +96,7 @@ has_comma text = nat_lt (position_or_len (λ b. b == 44) text) (length text)
 
 -- with what stands before the first comma; what stands after it is left
 abbrev pub with_first : Operand → List ℕ → Instruction → Option (Option (List ℕ) × Instruction)
-with_first o text i = option_map (λ next. (after 44 text, next)) (with_operand o (trimmed (until 44 text)) i)
+with_first o text i = option_map (λ next. (text_after 44 text, next)) (with_operand o (trimmed (until 44 text)) i)
 
 -- with one operand of what is left of a statement's text, if anything is. A code may be left out, and
 -- a link register, where only one operand is left

@@ -1,5 +1,5 @@
 //! From a source to its image.
-ghost use Rattle.ds_asm.specs.Assembling.{Assembles};
+ghost use Rattle.ds_asm.specs.Inner.Assembling.{Assembles};
 ghost use Rattle.ds_asm.specs.Assembly.{assembled};
 
 use crate::fault::AsmFault;

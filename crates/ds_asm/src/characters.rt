@@ -1,7 +1,7 @@
 //! Characters of a source, and the parts of a line.
 ghost use Rattle.std.specs.Prelude.{◌≡◌, ◌≤◌, ◌<◌, ◌==◌, ◌||◌, length, map, option_map};
 ghost use Rattle.std.specs.List.{list_all, prefix_len, suffix_len, position_or_len, before_first, after_first};
-ghost use Rattle.ds_asm.specs.Characters.{is_blank, is_letter, is_digit, is_name, without_front_blanks, without_back_blanks, trimmed, until, after};
+ghost use Rattle.ds_asm.specs.Characters.{is_blank, is_letter, is_digit, is_name, without_front_blanks, without_back_blanks, trimmed, until, text_after};
 
 use memchr::memchr;
 
@@ -85,7 +85,7 @@ pub fn trimmed(text: &[u8]) -> &[u8]
 }
 
 /// Where the first character `c` stands, or the text's length.
-pub(crate) fn place_of(c: u8, text: &[u8]) -> usize
+pub(crate) fn byte_place_or_end(c: u8, text: &[u8]) -> usize
     ensures exact { result ≡ position_or_len (λ b. b == c) text.now }
     ensures within { result ≤ length text.now }
 {
@@ -96,16 +96,16 @@ pub(crate) fn place_of(c: u8, text: &[u8]) -> usize
 pub fn until(c: u8, text: &[u8]) -> &[u8]
     ensures { result.now ≡ until c text.now }
 {
-    let place = place_of(c, text);
+    let place = byte_place_or_end(c, text);
     &text[..place]
 }
 
 /// What stands before the first character `c`, and after it if there is one.
 pub fn split_at_first(c: u8, text: &[u8]) -> (&[u8], Option<&[u8]>)
     ensures front { result.0.now ≡ until c text.now }
-    ensures back { option_map (λ t. t.now) result.1 ≡ after c text.now }
+    ensures back { option_map (λ t. t.now) result.1 ≡ text_after c text.now }
 {
-    let place = place_of(c, text);
+    let place = byte_place_or_end(c, text);
     if place < text.len() {
         (&text[..place], Some(&text[place + 1..]))
     } else {

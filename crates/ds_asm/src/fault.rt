@@ -1,6 +1,7 @@
 //! Why a source has no image.
 ghost use Rattle.std.specs.Prelude.{◌≡◌};
-ghost use Rattle.ds_asm.specs.Assembling.{fault_number, source_fault_line, source_fault_name, source_fault_number};
+ghost use Rattle.ds_asm.specs.Assembling.{source_fault_line, source_fault_name, source_fault_number};
+ghost use Rattle.ds_asm.specs.Inner.Assembling.{fault_number};
 ghost use Rattle.ds_asm.specs.declared.fault.AsmFault.TheVariants.{Memory, Source};
 
 use std::alloc::{AllocError, AllocFailed};

@@ -1,10 +1,11 @@
 //! All faults of a source.
 ghost use Rattle.std.specs.Prelude.{◌≡◌, ◌≤◌, ◌++◌, ℕ, List, [], IfOk, OnOk, Ok, Err};
 ghost use Rattle.std.specs.Option.{option_to_list};
-ghost use Rattle.ds_asm.specs.Assembling.{Lays, held_address};
-ghost use Rattle.ds_asm.specs.Assembly.{assembled, empty_layout, line_bytes, lines_of, with_lines};
+ghost use Rattle.ds_asm.specs.Inner.Assembling.{Lays, held_address};
+ghost use Rattle.ds_asm.specs.Assembly.{assembled, empty_layout, line_bytes, lines_of, laid_lines};
 ghost use Rattle.ds_asm.specs.Assembly as assembly;
-ghost use Rattle.ds_asm.specs.Faults.{BeginsWith, ComesOf, all_faults, fault_in, first_faults, second_faults};
+ghost use Rattle.ds_asm.specs.Faults.{all_faults, fault_in, first_faults, second_faults};
+ghost use Rattle.ds_asm.specs.Inner.Faults.{BeginsWith, ComesOf};
 ghost use Rattle.ds_asm.specs.Lines.{line_of};
 
 use crate::fault::{AsmFault, SourceFault};
@@ -71,7 +72,7 @@ fn first_pass(alloc: Global, text: &[u8]) -> Result<FirstPass<'_>, AllocError>
     ensures faults { IfOk result (λ p.
         p.faults.items ≡ first_faults 1 empty_layout (lines_of text.now)) }
     ensures laid { IfOk result (λ p. p.faults.items ≡ []
-        → Lays p.layout (with_lines 1 empty_layout (lines_of text.now))) }
+        → Lays p.layout (laid_lines 1 empty_layout (lines_of text.now))) }
 {
     let mut faults = Vec::new(alloc);
     let mut layout = Layout::new(alloc);
@@ -99,7 +100,7 @@ fn second_faults<'a>(
     text: &'a [u8],
     labels: &Labels<'a>,
 ) -> Result<Vec<SourceFault>, AllocError>
-    requires { (last : assembly.Layout) × (with_lines 1 empty_layout (lines_of text.now) ≡ Ok last) }
+    requires { (last : assembly.Layout) × (laid_lines 1 empty_layout (lines_of text.now) ≡ Ok last) }
     ensures { IfOk result (λ faults.
         faults.items ≡ second_faults 1 (held_address labels.now) 0 (lines_of text.now)) }
 {

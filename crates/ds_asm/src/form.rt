@@ -1,7 +1,8 @@
 //! The forms of instructions in a source.
 ghost use Rattle.std.specs.Prelude.{◌≡◌, ◌*◌, ◌%◌, ◌^◌, ◌-◌, bytes_eq, option_map, map};
 ghost use Rattle.std.specs.List.{find};
-ghost use Rattle.ds_asm.specs.Forms.{form_named, forms_with, written_of, field_of, operand_of};
+ghost use Rattle.ds_asm.specs.Forms.{form_named};
+ghost use Rattle.ds_asm.specs.Inner.Forms.{forms_with, written_of, field_of, operand_of};
 ghost use Rattle.ds_asm.specs.Operands.{is_code, is_link};
 
 use ds_isa::instruction_table;

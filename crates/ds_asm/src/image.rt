@@ -1,6 +1,6 @@
 //! The image of a source: its bytes, and the parts of it that fill pages.
 ghost use Rattle.std.specs.Prelude.{◌≡◌, ◌≤◌, ◌↔◌, IsTrue, [], length};
-ghost use Rattle.ds_asm.specs.Images.{part_of};
+ghost use Rattle.ds_asm.specs.Images.{page_of_image};
 
 use ds_word::PAGE_SIZE;
 use std::marker::Model;
@@ -56,7 +56,7 @@ impl Image {
     /// the image's end.
     pub fn page(&self, part: u8, page: &mut [u8])
         requires { length page.old ≡ 4096 }
-        ensures { page.new ≡ part_of self.now part }
+        ensures { page.new ≡ page_of_image self.now part }
     {
         let start = (PAGE_SIZE * part as usize).min(self.bytes.len());
         let rest = &self.bytes[start..];

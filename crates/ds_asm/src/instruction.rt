@@ -1,13 +1,13 @@
 //! From the text of operands to what an instruction has in their places.
 ghost use Rattle.std.specs.Prelude.{◌≡◌, ◌==◌, is_some, option_map, map};
 ghost use Rattle.ds_isa.specs.Fields.{rs, imm};
-ghost use Rattle.ds_asm.specs.Forms.{field_of, operand_of};
-ghost use Rattle.ds_asm.specs.Operands.{bare, with_value, with_number, with_target, with_register, with_unsigned, with_signed, with_indexed, with_operand, has_comma, with_first, with_next, with_operands, before_close};
-ghost use Rattle.ds_asm.specs.Plain.{plain_target, plain_instruction};
+ghost use Rattle.ds_asm.specs.Inner.Forms.{field_of, operand_of};
+ghost use Rattle.ds_asm.specs.Operands.{without_operands, with_value, with_number, with_target, with_register, with_unsigned, with_signed, with_indexed, with_operand, has_comma, with_first, with_next, with_operands, before_close};
+ghost use Rattle.ds_asm.specs.Inner.Plain.{plain_target, plain_instruction};
 
 use crate::characters::{is_name, split_at_first, trimmed};
 use crate::form::{Operand, Place};
-use crate::number::{Bounds, Number, number_of};
+use crate::number::{Bounds, Number, written_number};
 use crate::register::{register_of, system_register_of};
 
 /// The register that links go to.
@@ -33,8 +33,8 @@ pub struct Instruction<'a> {
 
 impl<'a> Instruction<'a> {
     /// An instruction without operands.
-    pub(crate) fn bare(word: u32) -> Instruction<'a>
-        ensures { plain_instruction result ≡ bare word }
+    pub(crate) fn without_operands(word: u32) -> Instruction<'a>
+        ensures { plain_instruction result ≡ without_operands word }
     {
         Instruction {
             word,
@@ -155,7 +155,7 @@ impl<'a> Instruction<'a> {
         ensures { option_map plain_instruction result
             ≡ with_signed imm text.now (plain_instruction self.entry) }
     {
-        let number = number_of(text)?;
+        let number = written_number(text)?;
         Some(self.with_number(Place::Immediate, 0x8000, 0x7FFF, &number))
     }
 
@@ -163,7 +163,7 @@ impl<'a> Instruction<'a> {
         ensures { option_map plain_instruction result
             ≡ with_unsigned (field_of place) text.now (plain_instruction self.entry) }
     {
-        let number = number_of(text)?;
+        let number = written_number(text)?;
         Some(self.with_number(place, 0, place.most(), &number))
     }
 
@@ -207,9 +207,11 @@ impl<'a> Instruction<'a> {
 impl Operand {
     /// Whether a text may stand in its place.
     pub fn takes(self, text: &[u8]) -> bool
-        ensures { result ≡ is_some (with_operand (operand_of self) text.now (bare 0)) }
+        ensures { result ≡ is_some (with_operand (operand_of self) text.now (without_operands 0)) }
     {
-        Instruction::bare(0).with_operand(self, text).is_some()
+        Instruction::without_operands(0)
+            .with_operand(self, text)
+            .is_some()
     }
 }
 

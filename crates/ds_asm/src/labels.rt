@@ -1,6 +1,6 @@
 //! The labels of a source.
 ghost use Rattle.std.specs.Prelude.{◌≡◌, ◌∷◌, [], IfOk, not, false, true, is_some};
-ghost use Rattle.ds_asm.specs.Assembling.{Holds, held_address};
+ghost use Rattle.ds_asm.specs.Inner.Assembling.{Holds, held_address};
 ghost use Rattle.ds_asm.specs.Assembly as assembly;
 
 use std::alloc::{AllocError, Global};

@@ -1,11 +1,11 @@
 //! The first pass: where labels stand, and whether everything fits.
 ghost use Rattle.std.specs.Prelude.{◌≡◌, ◌≢◌, ◌≤◌, ◌∷◌, Some, None, Ok, option_map, IfOk, IfErr};
-ghost use Rattle.ds_asm.specs.Assembling.{IsLaid, Holds, Assembles, Comes};
-ghost use Rattle.ds_asm.specs.Assembly.{empty_layout, labelled, sized, with_line, with_lines, lines_of};
+ghost use Rattle.ds_asm.specs.Inner.Assembling.{IsLaid, Holds, Assembles, Comes};
+ghost use Rattle.ds_asm.specs.Assembly.{empty_layout, labelled, sized, laid_line, laid_lines, lines_of};
 ghost use Rattle.ds_asm.specs.Assembly as assembly;
 ghost use Rattle.ds_asm.specs.Faults.{labels_past};
 ghost use Rattle.ds_asm.specs.Lines.{line_of};
-ghost use Rattle.ds_asm.specs.Plain.{plain_statement};
+ghost use Rattle.ds_asm.specs.Inner.Plain.{plain_statement};
 
 use crate::fault::{AsmFault, SourceFault};
 use crate::labels::Labels;
@@ -25,7 +25,7 @@ pub(crate) struct Layout<'a> {
 
 /// The layout of a source, or its first fault of the first pass.
 pub(crate) fn layout_of(alloc: Global, text: &[u8]) -> Result<Layout<'_>, AsmFault>
-    ensures { Comes (λ m l. IsLaid m l) result (with_lines 1 empty_layout (lines_of text.now)) }
+    ensures { Comes (λ m l. IsLaid m l) result (laid_lines 1 empty_layout (lines_of text.now)) }
 {
     let mut layout = Layout::new(alloc);
     let mut number = 0u64;
@@ -56,7 +56,7 @@ impl<'a> Layout<'a> {
     pub(crate) fn add_line(&mut self, number: u64, line: &'a [u8]) -> Result<(), AsmFault>
         requires { self.old.size ≤ 65536 }
         ensures said { (l : assembly.Layout) → IsLaid self.old l
-            → Comes (λ _ m. IsLaid self.new m) result (with_line number (line_of line.now) l) }
+            → Comes (λ _ m. IsLaid self.new m) result (laid_line number (line_of line.now) l) }
         ensures fits { IfOk result (λ _. self.new.size ≤ 65536) }
         ensures left { IfErr result (λ fault. fault ≢ AsmFault.Memory → (l : assembly.Layout)
             → IsLaid self.old l → Holds self.new.labels (labels_past number (line_of line.now) l)) }

@@ -31,6 +31,6 @@ pub use image::Image;
 pub use instruction::{Instruction, Target, before_close, has_comma};
 pub use layout::ORIGIN;
 pub use line::{Line, Statement, line_of, split_word, statement_named};
-pub use number::{Bounds, Number, number_of};
+pub use number::{Bounds, Number, written_number};
 pub use register::register_of;
 pub use source::{SourceLine, first_line, source_line};

@@ -2,16 +2,16 @@
 ghost use Rattle.std.specs.Prelude.{◌≡◌, ◌≤◌, option_map, length};
 ghost use Rattle.std.specs.List.{position_or_len};
 ghost use Rattle.ds_asm.specs.Characters.{is_blank};
-ghost use Rattle.ds_asm.specs.Numbers.{number_of};
+ghost use Rattle.ds_asm.specs.Numbers.{written_number};
 ghost use Rattle.ds_asm.specs.Lines.{mnemonic_of, after_word, number_word, instruction_named, statement_named, statement_of, statement_in, with_statement, line_parts, line_of};
-ghost use Rattle.ds_asm.specs.Assembly.{bounds_in, cause_at, cause_by, is_reserved_word, is_in_range, is_aligned, size_of};
-ghost use Rattle.ds_asm.specs.Plain.{plain_instruction, plain_statement, plain_line};
+ghost use Rattle.ds_asm.specs.Assembly.{bounds_in, cause_at, cause_by, is_reserved_word, is_in_range, is_word_aligned, statement_size};
+ghost use Rattle.ds_asm.specs.Inner.Plain.{plain_instruction, plain_statement, plain_line};
 
 use crate::cause::Cause;
 use crate::characters::{is_blank, is_name, split_at_first, trimmed, until, without_front_blanks};
 use crate::form::form_named;
 use crate::instruction::Instruction;
-use crate::number::{Bounds, Number, number_of};
+use crate::number::{Bounds, Number, written_number};
 use ds_isa::{Instr, decode};
 
 /// The most bytes that an image has.
@@ -41,7 +41,7 @@ impl<'a> Statement<'a> {
     pub fn cause_at(&self, at: u64) -> Option<Cause>
         ensures { result ≡ cause_at at (plain_statement self.now) }
     {
-        if self.is_in_range() && self.is_aligned(at) {
+        if self.is_in_range() && self.is_word_aligned(at) {
             None
         } else {
             Some(cause_by(at, self.bounds()))
@@ -66,16 +66,16 @@ impl<'a> Statement<'a> {
     {
         match self {
             Statement::Instruction(i) => i.out_of_range.is_none() && !is_reserved_word(i.word),
-            Statement::Word(number) => number.is_within(0x8000_0000, 0xFFFF_FFFF),
+            Statement::Word(number) => number.fits_bounds(0x8000_0000, 0xFFFF_FFFF),
             Statement::WordOf(_) => true,
-            Statement::Byte(number) => number.is_within(128, 255),
-            Statement::Space(number) => number.is_within(0, MOST_BYTES),
+            Statement::Byte(number) => number.fits_bounds(128, 255),
+            Statement::Space(number) => number.fits_bounds(0, MOST_BYTES),
         }
     }
 
     /// Words stand at multiples of four.
-    fn is_aligned(&self, at: u64) -> bool
-        ensures { result ≡ is_aligned at (plain_statement self.now) }
+    fn is_word_aligned(&self, at: u64) -> bool
+        ensures { result ≡ is_word_aligned at (plain_statement self.now) }
     {
         match self {
             Statement::Byte(_) | Statement::Space(_) => true,
@@ -85,7 +85,7 @@ impl<'a> Statement<'a> {
 
     /// How many bytes it takes.
     pub(crate) fn size(&self) -> u64
-        ensures { result ≡ size_of (plain_statement self.now) }
+        ensures { result ≡ statement_size (plain_statement self.now) }
     {
         match self {
             Statement::Instruction(_) | Statement::Word(_) | Statement::WordOf(_) => 4,
@@ -197,18 +197,18 @@ pub fn statement_named<'a>(name: &[u8], left: Option<&'a [u8]>) -> Option<Statem
     if name == b".word".as_slice() {
         word_statement(left?)
     } else if name == b".byte".as_slice() {
-        Some(Statement::Byte(number_of(left?)?))
+        Some(Statement::Byte(written_number(left?)?))
     } else if name == b".space".as_slice() {
-        Some(Statement::Space(number_of(left?)?))
+        Some(Statement::Space(written_number(left?)?))
     } else {
         Some(Statement::Instruction(instruction_named(name, left)?))
     }
 }
 
 fn word_statement(text: &[u8]) -> Option<Statement<'_>>
-    ensures { option_map plain_statement result ≡ number_word (number_of text.now) text.now }
+    ensures { option_map plain_statement result ≡ number_word (written_number text.now) text.now }
 {
-    match number_of(text) {
+    match written_number(text) {
         Some(number) => Some(Statement::Word(number)),
         None => {
             if is_name(text) {
@@ -226,5 +226,5 @@ fn instruction_named<'a>(name: &[u8], left: Option<&'a [u8]>) -> Option<Instruct
         ≡ instruction_named name.now (option_map (λ t. t.now) left.entry) }
 {
     let form = form_named(name)?;
-    Instruction::bare(form.word).with_operands(form.operands, left)
+    Instruction::without_operands(form.word).with_operands(form.operands, left)
 }

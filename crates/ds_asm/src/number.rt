@@ -1,6 +1,6 @@
 //! Numbers of a source.
 ghost use Rattle.std.specs.Prelude.{◌≡◌};
-ghost use Rattle.ds_asm.specs.Numbers.{decimal_of, hexadecimal_of, unsigned_of, number_of, is_within, out_of_range, as_word};
+ghost use Rattle.ds_asm.specs.Numbers.{decimal_of, hexadecimal_of, unsigned_of, written_number, fits_bounds, out_of_range, as_word};
 
 use ds_word::number_of_digits;
 
@@ -25,8 +25,8 @@ const MOST_DECIMAL: u64 = 9_999_999_999;
 
 /// The number of a text: one to ten decimal digits, with or without `-` before them, or `0x` and
 /// one to eight hexadecimal digits.
-pub fn number_of(text: &[u8]) -> Option<Number>
-    ensures { result ≡ number_of text.now }
+pub fn written_number(text: &[u8]) -> Option<Number>
+    ensures { result ≡ written_number text.now }
 {
     match text {
         [] => None,
@@ -78,8 +78,8 @@ fn hexadecimal_of(text: &[u8]) -> Option<u64>
 
 impl Number {
     /// Whether it is neither below `-least` nor above `most`.
-    pub fn is_within(&self, least: u64, most: u64) -> bool
-        ensures { result ≡ is_within least most self.now }
+    pub fn fits_bounds(&self, least: u64, most: u64) -> bool
+        ensures { result ≡ fits_bounds least most self.now }
     {
         if self.negative {
             self.magnitude <= least
@@ -92,7 +92,7 @@ impl Number {
     pub fn out_of_range(&self, least: u32, most: u32) -> Option<Bounds>
         ensures { result ≡ out_of_range least most self.now }
     {
-        if self.is_within(u64::from(least), u64::from(most)) {
+        if self.fits_bounds(u64::from(least), u64::from(most)) {
             None
         } else {
             Some(Bounds { least, most })

@@ -1,10 +1,10 @@
 //! The second pass: the bytes of the lines, where the labels are known.
 ghost use Rattle.std.specs.Prelude.{◌≡◌, ◌++◌, ◌∷◌, [], OnOk, Ok, Some, None, length, replicate};
 ghost use Rattle.ds_word.specs.Bytes.{bytes_of_word};
-ghost use Rattle.ds_asm.specs.Assembling.{Assembles, Comes, held_address};
+ghost use Rattle.ds_asm.specs.Inner.Assembling.{Assembles, Comes, held_address};
 ghost use Rattle.ds_asm.specs.Assembly.{branch_field, jump_field, known, resolved, statement_bytes, line_bytes, bytes_from, lines_of};
 ghost use Rattle.ds_asm.specs.Lines.{line_of};
-ghost use Rattle.ds_asm.specs.Plain.{plain_target, plain_instruction, plain_statement};
+ghost use Rattle.ds_asm.specs.Inner.Plain.{plain_target, plain_instruction, plain_statement};
 
 use crate::fault::{AsmFault, SourceFault};
 use crate::form::Place;

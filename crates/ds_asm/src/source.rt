@@ -3,9 +3,9 @@ ghost use Rattle.std.specs.Prelude.{◌≡◌, ◌==◌, option_map};
 ghost use Rattle.std.specs.List.{before_first, after_first};
 ghost use Rattle.ds_asm.specs.Faults.{optional_size, size_in, label_in};
 ghost use Rattle.ds_asm.specs.Lines.{line_of};
-ghost use Rattle.ds_asm.specs.Plain.{plain_statement};
+ghost use Rattle.ds_asm.specs.Inner.Plain.{plain_statement};
 
-use crate::characters::place_of;
+use crate::characters::byte_place_or_end;
 use crate::line::{Statement, line_of};
 
 /// What a line adds to a source.
@@ -49,7 +49,7 @@ pub fn first_line(text: &[u8]) -> (&[u8], &[u8])
     ensures line { result.0.now ≡ before_first (λ b. b == 10) text.now }
     ensures after { result.1.now ≡ after_first (λ b. b == 10) text.now }
 {
-    let end = place_of(b'\n', text);
+    let end = byte_place_or_end(b'\n', text);
     if end < text.len() {
         (&text[..end], &text[end + 1..])
     } else {

@@ -2,7 +2,7 @@
 use Rattle.std.specs.Prelude.{ℕ, ◌+◌, ◌-◌, ◌^◌, min, Bool, true, false, ◌==◌, ◌&&◌, ◌||◌, [], ◌∷◌, slice_index, slice_set, Option, Some, None, bit_and}
 use Rattle.ds_word.specs.Word.{bits}
 use Rattle.ds_cp0.specs.declared.exception.ExceptionCode.{ExceptionCode}
-use Rattle.ds_cp0.specs.Codes.{number_of}
+use Rattle.ds_cp0.specs.Codes.{code_number}
 use Rattle.ds_dev.specs.Bus.{BusState}
 use Rattle.ds_core.specs.declared.event.Event.{Event}
 use Rattle.ds_core.specs.declared.event.Event.TheVariants.{Retired, Branched, Raised}
@@ -43,9 +43,9 @@ interrupts_at at c b = bits (bit_and (system_reads c b 13) c.system.status) at 1
 unfoldable pub raised_counted : Counts → ExceptionCode → CoreState → BusState → Counts
 raised_counted k code c b = record k {
   refills = plus_if (c.pc == 0x80000000) k.refills;
-  lines = plus_if ((number_of code == 0) && interrupts_at 10 c b) k.lines;
-  clock = plus_if ((number_of code == 0) && interrupts_at 11 c b) k.clock;
-  exceptions = slice_set k.exceptions (number_of code) (plus (slice_index k.exceptions (number_of code)) 1);
+  lines = plus_if ((code_number code == 0) && interrupts_at 10 c b) k.lines;
+  clock = plus_if ((code_number code == 0) && interrupts_at 11 c b) k.clock;
+  exceptions = slice_set k.exceptions (code_number code) (plus (slice_index k.exceptions (code_number code)) 1);
 }
 
 -- with a step of the instruction with this word

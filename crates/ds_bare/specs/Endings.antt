@@ -3,7 +3,7 @@ use Rattle.std.specs.Prelude.{ℕ, zero, suc, ◌+◌, ◌*◌, Bool, true, fals
 use Rattle.ds_word.specs.Bytes.{word_at}
 use Rattle.ds_isa.specs.declared.instr.Size.TheVariants.{Word}
 use Rattle.ds_isa.specs.declared.instr.Kind.TheVariants.{Fetch}
-use Rattle.ds_cp0.specs.Codes.{number_of}
+use Rattle.ds_cp0.specs.Codes.{code_number}
 use Rattle.ds_cp0.specs.System.{is_user}
 use Rattle.ds_amap.specs.declared.map.Physical.{Physical}
 use Rattle.ds_amap.specs.declared.map.Fault.{Fault}
@@ -47,7 +47,7 @@ is_finish (Some w) = w == finish
 abbrev pub is_breakpoint : Event → Bool
 is_breakpoint Retired = false
 is_breakpoint Branched = false
-is_breakpoint (Raised code) = number_of code == 9
+is_breakpoint (Raised code) = code_number code == 9
 
 -- why the run ends after a step, if it does: the program said `break 1`, or the processor has come to a vector from which on 32 words are 0
 unfoldable pub ending_by : Option ℕ → Event → CoreState → BusState → Option Ending

@@ -15,7 +15,7 @@ use Rattle.ds_bare.specs.declared.ending.Ending.TheVariants.{Counted, Finished, 
 use Rattle.ds_words.specs.declared.bare_view.BareView.{BareView}
 use Rattle.ds_bare.specs.Machine.{Machine}
 use Rattle.ds_bare.specs.Looks.{looks_text}
-use Rattle.ds_bare.specs.Steps.{name_of, seen, others, flags_text, entry_text, code_text}
+use Rattle.ds_bare.specs.Steps.{name_of, general_seen, others, flags_text, buffer_entry_text, code_text}
 
 -- the exception that Cause, EPC and BadVAddr tell
 unfoldable pub cause_text : System → List ℕ
@@ -27,15 +27,15 @@ unfoldable pub with_cause : List ℕ → System → List ℕ
 with_cause reason s = reason ++ cause_text s
 
 -- why the run ended
-abbrev pub reason_text : Ending → System → List ℕ
-reason_text Counted s = codes "all instructions that were asked for\n"
-reason_text Finished s = with_cause (codes "done, by break 1: ") s
-reason_text AtGeneralVector s = with_cause (codes "at the general vector 80000080: ") s
-reason_text NoHandler s = with_cause (codes "at the refill vector 80000000, where 32 words are 0: ") s
+abbrev pub ending_text : Ending → System → List ℕ
+ending_text Counted s = codes "all instructions that were asked for\n"
+ending_text Finished s = with_cause (codes "done, by break 1: ") s
+ending_text AtGeneralVector s = with_cause (codes "at the general vector 80000080: ") s
+ending_text NoHandler s = with_cause (codes "at the refill vector 80000000, where 32 words are 0: ") s
 
 -- that, and after how many instructions
 unfoldable pub headline : Ending → ℕ → System → List ℕ
-headline e k s = codes "end after " ++ decimal k ++ codes ": " ++ reason_text e s
+headline e k s = codes "end after " ++ decimal k ++ codes ": " ++ ending_text e s
 
 -- a bit of a register with its name
 abbrev pub bit_text : List ℕ → ℕ → ℕ → List ℕ
@@ -67,12 +67,12 @@ random_text random = codes "Random " ++ decimal random ++ codes "\n"
 
 -- the line of a slot whose entry is valid
 abbrev pub valid_text : ℕ → Entry → List ℕ
-valid_text slot e = if e.v then codes "slot " ++ decimal slot ++ codes " " ++ entry_text e ++ codes "\n" else []
+valid_text slot e = if e.v then codes "slot " ++ decimal slot ++ codes " " ++ buffer_entry_text e ++ codes "\n" else []
 
 -- the lines of slots, from one on
-abbrev pub entries_text : ℕ → List Entry → List ℕ
-entries_text slot [] = []
-entries_text slot (e ∷ es) = valid_text slot e ++ entries_text (slot + 1) es
+abbrev pub slots_text : ℕ → List Entry → List ℕ
+slots_text slot [] = []
+slots_text slot (e ∷ es) = valid_text slot e ++ slots_text (slot + 1) es
 
 -- two slots whose entries match each other: the one, and the first such after it by how far it is from the next slot
 abbrev pub match_text : ℕ → Option ℕ → List ℕ
@@ -98,7 +98,7 @@ lines_text sent = sent_text 0 sent ++ sent_text 1 sent ++ sent_text 2 sent ++ se
 
 -- the processor, with registers called by these names
 unfoldable pub core_text : RegisterNames → CoreState → BusState → List ℕ
-core_text names c b = registers_text names 0 (seen c.registers) ++ registers_text names 32 (others c b) ++ random_text c.random ++ entries_text 0 c.entries ++ matches_text 0 c.entries
+core_text names c b = registers_text names 0 (general_seen c.registers) ++ registers_text names 32 (others c b) ++ random_text c.random ++ slots_text 0 c.entries ++ matches_text 0 c.entries
 
 -- the text of the end, after so many instructions
 unfoldable pub end_text : BareView → Ending → ℕ → Machine → List ℕ

@@ -3,11 +3,11 @@ pub mod Keys
 pub mod Counts
 pub mod Machine
 pub mod Endings
-pub mod EndingRows
 pub mod Steps
 pub mod Begun
-pub mod BegunRows
 pub mod Shows
 pub mod Looks
 pub mod Ends
 pub mod Runs
+pub mod Inner
+pub mod Rows

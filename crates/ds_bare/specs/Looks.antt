@@ -42,8 +42,8 @@ abbrev pub front_of_words : ℕ → ℕ → List ℕ
 front_of_words place i = if i % 8 == 0 then codes "memory " ++ hex8 place ++ codes ":" else []
 
 -- a word of memory, or a sign where no memory is
-abbrev pub word_text : BusState → ℕ → List ℕ
-word_text b place = if is_memory place then codes " " ++ hex8 (word_at b.memory place) else codes " -"
+abbrev pub memory_word_text : BusState → ℕ → List ℕ
+memory_word_text b place = if is_memory place then codes " " ++ hex8 (word_at b.memory place) else codes " -"
 
 -- after the last word of eight, and after the last of all, where a line ends
 abbrev pub back_of_words : ℕ → ℕ → List ℕ
@@ -51,7 +51,7 @@ back_of_words count i = if (i % 8 == 7) || (i + 1 == count) then codes "\n" else
 
 -- a word by its number among so many, in its line
 abbrev pub piece_text : BusState → ℕ → ℕ → ℕ → List ℕ
-piece_text b place count i = front_of_words place i ++ word_text b place ++ back_of_words count i
+piece_text b place count i = front_of_words place i ++ memory_word_text b place ++ back_of_words count i
 
 -- those from a place on, of which so many are left from this number on
 abbrev pub pieces_text : BusState → ℕ → ℕ → ℕ → ℕ → List ℕ

@@ -3,7 +3,7 @@ use Rattle.std.specs.Prelude.{ℕ, zero, suc, ◌+◌, ◌-◌, ◌^◌, false, 
 use Rattle.ds_isa.specs.Registers.{zero_registers}
 use Rattle.ds_tlb.specs.Entries.{empty_entries}
 use Rattle.ds_mem.specs.Memory.{zeros, with_frame}
-use Rattle.ds_asm.specs.Images.{part_of}
+use Rattle.ds_asm.specs.Images.{page_of_image}
 use Rattle.ds_cp0.specs.System as system
 use Rattle.ds_dev.specs.Serial.{received, sent}
 use Rattle.ds_dev.specs.Bus.{BusState, with_serial, after_ticks}
@@ -40,7 +40,7 @@ core_at_start random = record {
 -- memory with the first so many pages of an image, from the frame at 00400000 on
 unfoldable pub memory_with : List ℕ → ℕ → List ℕ
 memory_with image zero = zeros (2 ^ 23)
-memory_with image (suc k) = with_frame (memory_with image k) (1024 + k) (part_of image k)
+memory_with image (suc k) = with_frame (memory_with image k) (1024 + k) (page_of_image image k)
 
 -- a processor with an image in its memory, and nothing sent
 abbrev pub machine_with : CoreState → List ℕ → List Character → Machine
@@ -90,12 +90,12 @@ unfoldable pub counted : Option ℕ → Event → Machine → Machine
 counted w event m = record m { counts = step_counted m.counts w event m.core m.bus }
 
 -- the bus a tick later
-abbrev pub ticked : BusState → BusState
-ticked b = after_ticks b 1
+abbrev pub bus_ticked : BusState → BusState
+bus_ticked b = after_ticks b 1
 
 -- the machine when a tick has passed after its step, and the character that waited has left
-unfoldable pub settled : Machine → Machine
-settled m = record m {
-  bus = with_serial (ticked m.bus) (sent (ticked m.bus).serial).1;
-  sent = with_sent m.sent (sent (ticked m.bus).serial).0;
+unfoldable pub settled_machine : Machine → Machine
+settled_machine m = record m {
+  bus = with_serial (bus_ticked m.bus) (sent (bus_ticked m.bus).serial).1;
+  sent = with_sent m.sent (sent (bus_ticked m.bus).serial).0;
 }

@@ -1,7 +1,7 @@
 -- Which instructions are told.
 use Rattle.std.specs.Prelude.{ℕ, Bool, true, false, not, ◌==◌, ◌||◌, if◌then◌else◌, List, [], ◌++◌, slice_index, Option, Some, None}
 use Rattle.ds_word.specs.Word.{bits}
-use Rattle.ds_cp0.specs.Codes.{is_translation, number_of}
+use Rattle.ds_cp0.specs.Codes.{is_translation, code_number}
 use Rattle.ds_dev.specs.Bus.{BusState}
 use Rattle.ds_core.specs.declared.event.Event.{Event}
 use Rattle.ds_core.specs.declared.event.Event.TheVariants.{Retired, Branched, Raised}
@@ -11,7 +11,7 @@ use Rattle.ds_words.specs.declared.bare_view.BareOnly.TheVariants.{End, Exceptio
 use Rattle.ds_words.specs.declared.bare_view.BareView.{BareView}
 use Rattle.ds_bare.specs.declared.before.Before.{Before}
 use Rattle.ds_bare.specs.Begun.{begun_text}
-use Rattle.ds_bare.specs.Steps.{line_text, others}
+use Rattle.ds_bare.specs.Steps.{numbered_step_text, others}
 
 -- whether an exception was entered
 abbrev pub is_raised : Event → Bool
@@ -34,7 +34,7 @@ is_of_tlb w (Raised code) = is_translation code
 abbrev pub meets_device : Bool → Event → Bool
 meets_device device Retired = device
 meets_device device Branched = false
-meets_device device (Raised code) = number_of code == 0
+meets_device device (Raised code) = code_number code == 0
 
 -- what the devices ask for, by the registers but the general ones: bits 10 and 11 of Cause
 abbrev pub asked_in : List ℕ → ℕ
@@ -54,7 +54,7 @@ is_of (Some Devices) before event c b = is_of_devices before event c b
 
 -- its line, where it is told
 abbrev pub line_shown : BareView → ℕ → Before → Event → CoreState → BusState → List ℕ
-line_shown v k before event c b = if is_of v.only before event c b then line_text v.names k before event c b else []
+line_shown v k before event c b = if is_of v.only before event c b then numbered_step_text v.names k before event c b else []
 
 -- where slots begin to match each other, where that is told
 abbrev pub begun_shown : BareView → Before → CoreState → List ℕ

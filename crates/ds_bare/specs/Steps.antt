@@ -7,12 +7,12 @@ use Rattle.ds_isa.specs.declared.instr.Instr.TheVariants as instr
 use Rattle.ds_isa.specs.declared.instr.Kind.TheVariants.{Load, Store}
 use Rattle.ds_isa.specs.Instruction.{instruction_of}
 use Rattle.ds_isa.specs.Registers.{Registers, read}
-use Rattle.ds_isa.specs.Meaning.{address_of}
+use Rattle.ds_isa.specs.Meaning.{access_address}
 use Rattle.ds_listing.specs.declared.names.RegisterNames.{RegisterNames}
 use Rattle.ds_listing.specs.NamedTexts.{register_as, text_as}
 use Rattle.ds_text.specs.Digits.{hex8}
 use Rattle.ds_tlb.specs.declared.entry.Entry.{Entry}
-use Rattle.ds_cp0.specs.Codes.{number_of}
+use Rattle.ds_cp0.specs.Codes.{code_number}
 use Rattle.ds_cp0.specs.System.{asid_of}
 use Rattle.ds_amap.specs.declared.map.Physical.{Physical}
 use Rattle.ds_amap.specs.declared.map.Fault.{Fault}
@@ -21,7 +21,7 @@ use Rattle.ds_dev.specs.Bus.{BusState, is_memory}
 use Rattle.ds_core.specs.declared.event.Event.{Event}
 use Rattle.ds_core.specs.declared.event.Event.TheVariants.{Retired, Branched, Raised}
 use Rattle.ds_core.specs.Access.{mode_of}
-use Rattle.ds_core.specs.Coprocessor.{indexed, system_reads}
+use Rattle.ds_core.specs.Coprocessor.{index_slot, system_reads}
 use Rattle.ds_core.specs.Core.{CoreState}
 use Rattle.ds_bare.specs.declared.before.Before.{Before}
 use Rattle.ds_bare.specs.declared.before.Stored.{Stored}
@@ -46,8 +46,8 @@ seen_by None general = general
 seen_by (Some l) general = slice_set general l.register l.old
 
 -- the general registers, as the next instruction reads them
-abbrev pub seen : Registers → List ℕ
-seen r = seen_by r.late r.general
+abbrev pub general_seen : Registers → List ℕ
+general_seen r = seen_by r.late r.general
 
 -- HI, LO, and the coprocessor's registers as `mfc0` reads them, in the order of their names
 unfoldable pub others : CoreState → BusState → List ℕ
@@ -57,39 +57,39 @@ others c b =
     ∷ c.system.status ∷ system_reads c b 13 ∷ c.system.epc ∷ []
 
 -- the slot of the buffer that an instruction writes, if it does
-abbrev pub slot_of : CoreState → Instr → Option ℕ
-slot_of c instr.Tlbwi = Some (indexed c.system)
-slot_of c instr.Tlbwr = Some c.random
-slot_of c i = None
+abbrev pub slot_written : CoreState → Instr → Option ℕ
+slot_written c instr.Tlbwi = Some (index_slot c.system)
+slot_written c instr.Tlbwr = Some c.random
+slot_written c i = None
 
 -- the address of a store and the register that is stored, if the instruction is one
 abbrev pub store_of : Registers → Instr → Option (ℕ × ℕ)
-store_of r (instr.Sb rt rs i) = Some (address_of r rs i, read r rt)
-store_of r (instr.Sh rt rs i) = Some (address_of r rs i, read r rt)
-store_of r (instr.Swl rt rs i) = Some (address_of r rs i, read r rt)
-store_of r (instr.Sw rt rs i) = Some (address_of r rs i, read r rt)
-store_of r (instr.Swr rt rs i) = Some (address_of r rs i, read r rt)
+store_of r (instr.Sb rt rs i) = Some (access_address r rs i, read r rt)
+store_of r (instr.Sh rt rs i) = Some (access_address r rs i, read r rt)
+store_of r (instr.Swl rt rs i) = Some (access_address r rs i, read r rt)
+store_of r (instr.Sw rt rs i) = Some (access_address r rs i, read r rt)
+store_of r (instr.Swr rt rs i) = Some (access_address r rs i, read r rt)
 store_of r i = None
 
 -- the physical place of a store
-abbrev pub stored_at : ℕ → Result Physical Fault → Option Stored
-stored_at value (Err fault) = None
-stored_at value (Ok place) = Some (record { place = place.0; value = value })
+abbrev pub stored_place : ℕ → Result Physical Fault → Option Stored
+stored_place value (Err fault) = None
+stored_place value (Ok place) = Some (record { place = place.0; value = value })
 
 -- the same, where there is a store
 abbrev pub stored_by : CoreState → Option (ℕ × ℕ) → Option Stored
 stored_by c None = None
-stored_by c (Some s) = stored_at s.1 (translate c.entries (asid_of c.system) (mode_of c.system) Store s.0)
+stored_by c (Some s) = stored_place s.1 (translate c.entries (asid_of c.system) (mode_of c.system) Store s.0)
 
 -- the address of a load, if the instruction is one
 abbrev pub load_of : Registers → Instr → Option ℕ
-load_of r (instr.Lb rt rs i) = Some (address_of r rs i)
-load_of r (instr.Lh rt rs i) = Some (address_of r rs i)
-load_of r (instr.Lwl rt rs i) = Some (address_of r rs i)
-load_of r (instr.Lw rt rs i) = Some (address_of r rs i)
-load_of r (instr.Lbu rt rs i) = Some (address_of r rs i)
-load_of r (instr.Lhu rt rs i) = Some (address_of r rs i)
-load_of r (instr.Lwr rt rs i) = Some (address_of r rs i)
+load_of r (instr.Lb rt rs i) = Some (access_address r rs i)
+load_of r (instr.Lh rt rs i) = Some (access_address r rs i)
+load_of r (instr.Lwl rt rs i) = Some (access_address r rs i)
+load_of r (instr.Lw rt rs i) = Some (access_address r rs i)
+load_of r (instr.Lbu rt rs i) = Some (access_address r rs i)
+load_of r (instr.Lhu rt rs i) = Some (access_address r rs i)
+load_of r (instr.Lwr rt rs i) = Some (access_address r rs i)
 load_of r i = None
 
 -- whether an access reaches a device, by its physical place
@@ -114,14 +114,14 @@ held_at c (Some slot) = slice_get c.entries slot
 
 -- what of the machine before an instruction its line tells, with its registers but the general ones
 abbrev pub before_word : CoreState → List ℕ → Option ℕ → Before
-before_word c others None = record { pc = c.pc; word = None; registers = seen c.registers; others = others; slot = None; held = None; stored = None; device = false }
+before_word c others None = record { pc = c.pc; word = None; registers = general_seen c.registers; others = others; slot = None; held = None; stored = None; device = false }
 before_word c others (Some w) = record {
   pc = c.pc;
   word = Some w;
-  registers = seen c.registers;
+  registers = general_seen c.registers;
   others = others;
-  slot = slot_of c (instruction_of w);
-  held = held_at c (slot_of c (instruction_of w));
+  slot = slot_written c (instruction_of w);
+  held = held_at c (slot_written c (instruction_of w));
   stored = stored_by c (store_of c.registers (instruction_of w));
   device = loads_device c (load_of c.registers (instruction_of w)) || stores_device (stored_by c (store_of c.registers (instruction_of w)));
 }
@@ -140,19 +140,19 @@ abbrev pub flags_text : Entry → List ℕ
 flags_text e = flag_text (codes " N") e.n ++ flag_text (codes " D") e.d ++ flag_text (codes " V") e.v ++ flag_text (codes " G") e.g
 
 -- an entry of the buffer: the page's address, its address space, the frame's address, the bits
-abbrev pub entry_text : Entry → List ℕ
-entry_text e =
+abbrev pub buffer_entry_text : Entry → List ℕ
+buffer_entry_text e =
     hex8 (e.vpn % 2 ^ 20 * 2 ^ 12) ++ codes " asid " ++ decimal e.asid ++ codes " frame " ++ hex8 (e.pfn % 2 ^ 20 * 2 ^ 12) ++ flags_text e
 
 -- a slot with its entry
 abbrev pub slot_entry_text : ℕ → Option Entry → List ℕ
 slot_entry_text slot None = []
-slot_entry_text slot (Some e) = codes "slot " ++ decimal slot ++ codes " " ++ entry_text e
+slot_entry_text slot (Some e) = codes "slot " ++ decimal slot ++ codes " " ++ buffer_entry_text e
 
 -- the slot that was written, if one was
-abbrev pub slot_text : List Entry → Option ℕ → List ℕ
-slot_text entries None = []
-slot_text entries (Some slot) = codes "; " ++ slot_entry_text slot (slice_get entries slot)
+abbrev pub slot_written_text : List Entry → Option ℕ → List ℕ
+slot_written_text entries None = []
+slot_written_text entries (Some slot) = codes "; " ++ slot_entry_text slot (slice_get entries slot)
 
 -- the word that a place has after a store: in memory its word, else what the device was given
 abbrev pub word_stored : BusState → Stored → ℕ
@@ -169,12 +169,12 @@ late_text names None = []
 late_text names (Some l) = codes "; " ++ name_of names l.register ++ codes " is late"
 
 -- what an instruction that is done wrote elsewhere than into a register
-abbrev pub done_text : RegisterNames → Before → CoreState → BusState → List ℕ
-done_text names before c b = slot_text c.entries before.slot ++ stored_text b before.stored ++ late_text names c.registers.late
+abbrev pub wrote_text : RegisterNames → Before → CoreState → BusState → List ℕ
+wrote_text names before c b = slot_written_text c.entries before.slot ++ stored_text b before.stored ++ late_text names c.registers.late
 
 -- the same by the step's event
 abbrev pub written_text : RegisterNames → Before → Event → CoreState → BusState → List ℕ
-written_text names before Retired c b = done_text names before c b
+written_text names before Retired c b = wrote_text names before c b
 written_text names before Branched c b = []
 written_text names before (Raised code) c b = []
 
@@ -217,17 +217,17 @@ raised_text code pc = codes "; exception " ++ code_text code ++ codes " at " ++ 
 abbrev pub event_text : Event → ℕ → List ℕ
 event_text Retired pc = []
 event_text Branched pc = []
-event_text (Raised code) pc = raised_text (number_of code) pc
+event_text (Raised code) pc = raised_text (code_number code) pc
 
 -- what all registers have that changed
-unfoldable pub registers_text : RegisterNames → Before → CoreState → BusState → List ℕ
-registers_text names before c b = changes_text names 0 before.registers (seen c.registers) ++ changes_text names 32 before.others (others c b)
+unfoldable pub changed_registers_text : RegisterNames → Before → CoreState → BusState → List ℕ
+changed_registers_text names before c b = changes_text names 0 before.registers (general_seen c.registers) ++ changes_text names 32 before.others (others c b)
 
 -- a step's number, its address and its instruction
 unfoldable pub front_text : RegisterNames → ℕ → ℕ → Option ℕ → List ℕ
 front_text names k pc word = decimal k ++ codes " " ++ hex8 pc ++ codes " " ++ instruction_text names word
 
 -- the line of the step with this number, with registers called by these names
-unfoldable pub line_text : RegisterNames → ℕ → Before → Event → CoreState → BusState → List ℕ
-line_text names k before event c b =
-    front_text names k before.pc before.word ++ written_text names before event c b ++ registers_text names before c b ++ event_text event c.pc ++ codes "\n"
+unfoldable pub numbered_step_text : RegisterNames → ℕ → Before → Event → CoreState → BusState → List ℕ
+numbered_step_text names k before event c b =
+    front_text names k before.pc before.word ++ written_text names before event c b ++ changed_registers_text names before c b ++ event_text event c.pc ++ codes "\n"

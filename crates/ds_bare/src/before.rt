@@ -1,12 +1,12 @@
 //! What of the machine before an instruction its line tells.
 ghost use Rattle.std.specs.Prelude.{◌≡◌, ◌<◌, IfSome, Some};
 ghost use Rattle.ds_isa.specs.Instruction.{instruction_of};
-ghost use Rattle.ds_isa.specs.Meaning.{address_of};
-ghost use Rattle.ds_bare.specs.Steps.{before_word, held_at, load_of, loads_device, slot_of, store_of, stored_by, stores_device};
+ghost use Rattle.ds_isa.specs.Meaning.{access_address};
+ghost use Rattle.ds_bare.specs.Steps.{before_word, held_at, load_of, loads_device, slot_written, store_of, stored_by, stores_device};
 
 use crate::ending::{Processor, mode_of};
-use crate::registers::{read, seen};
-use ds_amap::{Access, Physical, translate};
+use crate::registers::{general_seen, read};
+use ds_amap::{Kind, Physical, translate};
 use ds_cp0::register;
 use ds_isa::{Instr, decode};
 use ds_mem::SIZE;
@@ -48,12 +48,12 @@ impl Before {
         match word {
             Some(read) => {
                 let instr = decode(read);
-                let slot = slot_of(core, instr);
+                let slot = slot_written(core, instr);
                 let stored = stored_by(core, store_of(core, instr));
                 Before {
                     pc: core.pc,
                     word,
-                    registers: seen(core),
+                    registers: general_seen(core),
                     others,
                     slot,
                     held: held_at(core, slot),
@@ -64,7 +64,7 @@ impl Before {
             None => Before {
                 pc: core.pc,
                 word,
-                registers: seen(core),
+                registers: general_seen(core),
                 others,
                 slot: None,
                 held: None,
@@ -76,8 +76,8 @@ impl Before {
 }
 
 /// The slot that an instruction writes, if it does.
-fn slot_of(core: &Processor, instr: Instr) -> Option<usize>
-    ensures { result ≡ slot_of core.now instr }
+fn slot_written(core: &Processor, instr: Instr) -> Option<usize>
+    ensures { result ≡ slot_written core.now instr }
 {
     match instr {
         Instr::Tlbwi => Some(((core.cp0.read(register::INDEX) >> 8) & 0x3f) as usize),
@@ -101,13 +101,13 @@ fn load_of(core: &Processor, instr: Instr) -> Option<u32>
     ensures { result ≡ load_of core.now.registers instr }
 {
     match instr {
-        Instr::Lb { rs, immediate, .. } => Some(address_of(core, rs, immediate)),
-        Instr::Lh { rs, immediate, .. } => Some(address_of(core, rs, immediate)),
-        Instr::Lwl { rs, immediate, .. } => Some(address_of(core, rs, immediate)),
-        Instr::Lw { rs, immediate, .. } => Some(address_of(core, rs, immediate)),
-        Instr::Lbu { rs, immediate, .. } => Some(address_of(core, rs, immediate)),
-        Instr::Lhu { rs, immediate, .. } => Some(address_of(core, rs, immediate)),
-        Instr::Lwr { rs, immediate, .. } => Some(address_of(core, rs, immediate)),
+        Instr::Lb { rs, immediate, .. } => Some(access_address(core, rs, immediate)),
+        Instr::Lh { rs, immediate, .. } => Some(access_address(core, rs, immediate)),
+        Instr::Lwl { rs, immediate, .. } => Some(access_address(core, rs, immediate)),
+        Instr::Lw { rs, immediate, .. } => Some(access_address(core, rs, immediate)),
+        Instr::Lbu { rs, immediate, .. } => Some(access_address(core, rs, immediate)),
+        Instr::Lhu { rs, immediate, .. } => Some(access_address(core, rs, immediate)),
+        Instr::Lwr { rs, immediate, .. } => Some(access_address(core, rs, immediate)),
         _ => None,
     }
 }
@@ -121,7 +121,7 @@ fn loads_device(core: &Processor, address: Option<u32>) -> bool
     };
     match translate(
         address,
-        Access::Load,
+        Kind::Load,
         mode_of(core),
         &core.tlb,
         core.cp0.asid(),
@@ -142,8 +142,8 @@ fn stores_device(stored: Option<Stored>) -> bool
 }
 
 /// The address of a load or a store.
-fn address_of(core: &Processor, base: u8, immediate: u16) -> u32
-    ensures { result ≡ address_of core.now.registers base immediate }
+fn access_address(core: &Processor, base: u8, immediate: u16) -> u32
+    ensures { result ≡ access_address core.now.registers base immediate }
 {
     wrapping_sum(read(core, base), sign16(immediate))
 }
@@ -153,11 +153,26 @@ fn store_of(core: &Processor, instr: Instr) -> Option<(u32, u32)>
     ensures { result ≡ store_of core.now.registers instr }
 {
     match instr {
-        Instr::Sb { rt, rs, immediate } => Some((address_of(core, rs, immediate), read(core, rt))),
-        Instr::Sh { rt, rs, immediate } => Some((address_of(core, rs, immediate), read(core, rt))),
-        Instr::Swl { rt, rs, immediate } => Some((address_of(core, rs, immediate), read(core, rt))),
-        Instr::Sw { rt, rs, immediate } => Some((address_of(core, rs, immediate), read(core, rt))),
-        Instr::Swr { rt, rs, immediate } => Some((address_of(core, rs, immediate), read(core, rt))),
+        Instr::Sb { rt, rs, immediate } => Some((
+            access_address(core, rs, immediate),
+            read(core, rt),
+        )),
+        Instr::Sh { rt, rs, immediate } => Some((
+            access_address(core, rs, immediate),
+            read(core, rt),
+        )),
+        Instr::Swl { rt, rs, immediate } => Some((
+            access_address(core, rs, immediate),
+            read(core, rt),
+        )),
+        Instr::Sw { rt, rs, immediate } => Some((
+            access_address(core, rs, immediate),
+            read(core, rt),
+        )),
+        Instr::Swr { rt, rs, immediate } => Some((
+            access_address(core, rs, immediate),
+            read(core, rt),
+        )),
         _ => None,
     }
 }
@@ -169,7 +184,7 @@ fn stored_by(core: &Processor, store: Option<(u32, u32)>) -> Option<Stored>
     let (address, value) = store?;
     match translate(
         address,
-        Access::Store,
+        Kind::Store,
         mode_of(core),
         &core.tlb,
         core.cp0.asid(),

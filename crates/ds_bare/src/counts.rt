@@ -1,6 +1,6 @@
 //! What is counted of a run.
 ghost use Rattle.std.specs.Prelude.{◌≡◌, ◌<◌};
-ghost use Rattle.ds_cp0.specs.Codes.{number_of};
+ghost use Rattle.ds_cp0.specs.Codes.{code_number};
 ghost use Rattle.ds_bare.specs.Counts.{came_counted, interrupts_at, none_counted, plus, plus_if, raised_counted, step_counted, writes_slot};
 
 use crate::ending::Processor;
@@ -68,8 +68,8 @@ fn interrupts_at(at: u32, core: &Processor, bus: &Bus) -> bool
 }
 
 /// The number of a code, as a place among the counts.
-fn place_of(code: ExceptionCode) -> usize
-    ensures number { result ≡ number_of code }
+fn code_place(code: ExceptionCode) -> usize
+    ensures number { result ≡ code_number code }
     ensures few { result < 13 }
 {
     match code {
@@ -119,7 +119,7 @@ impl Counts {
         ensures { result ≡ raised_counted self code core.now bus.now }
     {
         let mut counts = self;
-        let place = place_of(code);
+        let place = code_place(code);
         counts.refills = plus_if(core.pc == REFILL_VECTOR, counts.refills);
         counts.lines = plus_if(place == 0 && interrupts_at(10, core, bus), counts.lines);
         counts.clock = plus_if(place == 0 && interrupts_at(11, core, bus), counts.clock);

@@ -2,7 +2,7 @@
 ghost use Rattle.std.specs.Prelude.{◌≡◌, ◌≤◌, ◌<◌, ◌+◌, ◌++◌, OnOk, length, IfOk};
 ghost use Rattle.std.specs.List.{flat_map};
 ghost use Rattle.std.specs.String.{string_bytes};
-ghost use Rattle.ds_bare.specs.Ends.{bit_text, cause_text, character_text, core_text, end_text, fields_text, headline, lines_text, random_text, reason_text, register_text, registers_text, sent_text, with_cause};
+ghost use Rattle.ds_bare.specs.Ends.{bit_text, cause_text, character_text, core_text, end_text, fields_text, headline, lines_text, random_text, ending_text, register_text, registers_text, sent_text, with_cause};
 
 use crate::ending::{Ending, Processor};
 use crate::entries::push_flags;
@@ -10,7 +10,7 @@ use crate::looks::push_looks;
 use crate::machine::Machine;
 use crate::matches::{entries_of, push_entries, push_matches};
 use crate::names::{push_code, push_name};
-use crate::registers::{others, seen};
+use crate::registers::{general_seen, others};
 use ds_cp0::{Cp0, register};
 use ds_dev::Bus;
 use ds_listing::RegisterNames;
@@ -52,7 +52,7 @@ fn push_headline(text: &mut String, ending: Ending, done: u64, cp0: &Cp0) -> Res
 /// Adds why the run ended.
 fn push_reason(text: &mut String, ending: Ending, cp0: &Cp0) -> Result<(), AllocError>
     ensures { OnOk result
-        (string_bytes text.new ≡ string_bytes text.old ++ reason_text ending cp0.now) }
+        (string_bytes text.new ≡ string_bytes text.old ++ ending_text ending cp0.now) }
 {
     match ending {
         Ending::Counted => text.push_str("all instructions that were asked for\n"),
@@ -105,7 +105,7 @@ fn push_core(
     ensures { OnOk result
         (string_bytes text.new ≡ string_bytes text.old ++ core_text names core.now bus.now) }
 {
-    push_registers(text, names, 0, &seen(core))?;
+    push_registers(text, names, 0, &general_seen(core))?;
     push_registers(text, names, 32, &others(core, bus))?;
     push_random(text, core.tlb.random())?;
     let entries = entries_of(alloc, core)?;

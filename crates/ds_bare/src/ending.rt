@@ -5,7 +5,7 @@ ghost use Rattle.ds_core.specs.Access.{mode_of};
 ghost use Rattle.ds_core.specs.Core.{CoreState, Step};
 ghost use Rattle.ds_bare.specs.Endings.{are_zero, ending_by, is_at, is_breakpoint, is_finish, word_at_pc, word_in};
 
-use ds_amap::{Access, Mode, Physical, translate};
+use ds_amap::{Kind, Mode, Physical, translate};
 use ds_core::{Core, Event};
 use ds_cp0::{ExceptionCode, GENERAL_VECTOR, REFILL_VECTOR};
 use ds_dev::Bus;
@@ -63,7 +63,7 @@ pub(crate) fn word_at_pc(core: &Processor, bus: &Bus) -> Option<u32>
     }
     match translate(
         core.pc,
-        Access::Fetch,
+        Kind::Fetch,
         mode_of(core),
         &core.tlb,
         core.cp0.asid(),

@@ -1,7 +1,7 @@
 //! Entries of the translation buffer, as text.
 ghost use Rattle.std.specs.Prelude.{◌≡◌, ◌++◌, OnOk, Some};
 ghost use Rattle.std.specs.String.{string_bytes};
-ghost use Rattle.ds_bare.specs.Steps.{entry_text, flag_text, flags_text, slot_entry_text};
+ghost use Rattle.ds_bare.specs.Steps.{buffer_entry_text, flag_text, flags_text, slot_entry_text};
 
 use ds_text::string::{push_decimal, push_hex};
 use ds_tlb::Entry;
@@ -29,7 +29,7 @@ pub(crate) fn push_flags(text: &mut String, entry: &Entry) -> Result<(), AllocEr
 /// Adds an entry: the page's address, its address space, the frame's address and the bits.
 pub(crate) fn push_entry(text: &mut String, entry: &Entry) -> Result<(), AllocError>
     ensures { OnOk result
-        (string_bytes text.new ≡ string_bytes text.old ++ entry_text entry.now) }
+        (string_bytes text.new ≡ string_bytes text.old ++ buffer_entry_text entry.now) }
 {
     push_hex(text, entry.vpn % 0x10_0000 * 0x1000)?;
     text.push_str(" asid ")?;

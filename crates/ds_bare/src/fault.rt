@@ -1,6 +1,6 @@
 //! Why there is no run, or no whole text of one.
 ghost use Rattle.std.specs.Prelude.{◌≡◌};
-ghost use Rattle.ds_bare.specs.Faults.{number_of};
+ghost use Rattle.ds_bare.specs.Inner.Faults.{bare_fault_number};
 ghost use Rattle.ds_bare.specs.declared.fault.BareFault.TheVariants as variants;
 
 use ds_log::WriteFailed;
@@ -27,7 +27,7 @@ pub enum BareFault {
 impl BareFault {
     /// The refusal's number.
     pub fn number(&self) -> u32
-        ensures { result ≡ number_of self.now }
+        ensures { result ≡ bare_fault_number self.now }
     {
         match self {
             BareFault::BadRandom => 1,

@@ -1,7 +1,8 @@
 //! The characters of an input.
 ghost use Rattle.std.specs.Prelude.{◌≡◌, ◌++◌, IfErr, IfOk, Ok, []};
 ghost use Rattle.ds_policy.specs.InputText.{input_of};
-ghost use Rattle.ds_bare.specs.Keys.{IsFaultOf, keys_in};
+ghost use Rattle.ds_bare.specs.Keys.{keys_in};
+ghost use Rattle.ds_bare.specs.Inner.Keys.{IsFaultOf};
 
 use ds_policy::{Character, Events, EventsFault, Policy};
 use std::alloc::{AllocError, Global};

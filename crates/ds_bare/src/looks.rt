@@ -2,7 +2,7 @@
 ghost use Rattle.std.specs.Prelude.{◌≡◌, ◌<◌, ◌++◌, OnOk, length};
 ghost use Rattle.std.specs.List.{flat_map};
 ghost use Rattle.std.specs.String.{string_bytes};
-ghost use Rattle.ds_bare.specs.Looks.{back_of_words, count_text, counts_text, devices_counted, exception_text, exceptions_text, front_of_words, looks_text, piece_text, pieces_text, span_text, steps_counted, word_text};
+ghost use Rattle.ds_bare.specs.Looks.{back_of_words, count_text, counts_text, devices_counted, exception_text, exceptions_text, front_of_words, looks_text, piece_text, pieces_text, span_text, steps_counted, memory_word_text};
 
 use crate::counts::Counts;
 use crate::machine::Machine;
@@ -105,7 +105,7 @@ fn push_front(text: &mut String, place: u32, index: u32) -> Result<(), AllocErro
 /// Adds the word at a place, or a sign where no memory is.
 fn push_word(text: &mut String, bus: &Bus, place: u32) -> Result<(), AllocError>
     ensures { OnOk result
-        (string_bytes text.new ≡ string_bytes text.old ++ word_text bus.now place) }
+        (string_bytes text.new ≡ string_bytes text.old ++ memory_word_text bus.now place) }
 {
     if (place as usize) < SIZE {
         text.push_str(" ")?;

@@ -111,7 +111,7 @@ fn add_sent(sent: &mut Vec<(u8, u8)>, character: Option<(u8, u8)>) -> Result<(),
 
 impl<'a> Machine<'a> {
     ghost use Rattle.std.specs.Prelude.{◌≡◌, ◌↔◌, ◌<◌, ◌≤◌, IfOk, OnOk, OnErr, IfErr};
-    ghost use Rattle.ds_bare.specs.Machine.{counted, fed, machine_with, next_step, settled, stepped};
+    ghost use Rattle.ds_bare.specs.Machine.{counted, fed, machine_with, next_step, settled_machine, stepped};
 
     /// A processor with an image in its memory.
     pub fn new(
@@ -165,9 +165,9 @@ impl<'a> Machine<'a> {
 
     /// Lets a tick pass, and the character leave that a line has sent.
     #[inline(always)]
-    #[tactic(auto, unfolding(crate::specs::Machine::settled))]
+    #[tactic(auto, unfolding(crate::specs::Machine::settled_machine))]
     pub fn settle(&mut self) -> Result<(), AllocError>
-        ensures { OnOk result (self.new ≡ settled self.old) }
+        ensures { OnOk result (self.new ≡ settled_machine self.old) }
     {
         self.bus.tick(1);
         let sent = self.bus.sent();

@@ -2,7 +2,7 @@
 ghost use Rattle.std.specs.Prelude.{◌≡◌, position, IfSome, ◌<◌, length, OnOk, ◌++◌, ◌≤◌, ◌+◌, IfOk};
 ghost use Rattle.std.specs.String.{string_bytes};
 ghost use Rattle.ds_tlb.specs.Singles.{match_each_other};
-ghost use Rattle.ds_bare.specs.Ends.{entries_text, match_text, matches_text, valid_text};
+ghost use Rattle.ds_bare.specs.Ends.{slots_text, match_text, matches_text, valid_text};
 
 use crate::ending::Processor;
 use crate::entries::push_entry;
@@ -92,7 +92,7 @@ fn push_valid(text: &mut String, slot: usize, entry: &Entry) -> Result<(), Alloc
 pub(crate) fn push_entries(text: &mut String, entries: &[Entry]) -> Result<(), AllocError>
     requires { length entries.now ≤ 64 }
     ensures { OnOk result
-        (string_bytes text.new ≡ string_bytes text.old ++ entries_text 0 entries.now) }
+        (string_bytes text.new ≡ string_bytes text.old ++ slots_text 0 entries.now) }
 {
     let mut slot = 0;
     let mut left = entries;

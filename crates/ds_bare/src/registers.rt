@@ -2,7 +2,7 @@
 ghost use Rattle.std.specs.Prelude.{◌≡◌};
 ghost use Rattle.ds_isa.specs.Registers.{read};
 ghost use Rattle.ds_core.specs.Coprocessor.{system_reads};
-ghost use Rattle.ds_bare.specs.Steps.{others, seen};
+ghost use Rattle.ds_bare.specs.Steps.{others, general_seen};
 
 use crate::ending::Processor;
 use ds_cp0::register;
@@ -10,8 +10,8 @@ use ds_dev::Bus;
 use ds_word::bit;
 
 /// The general registers, as the next instruction reads them.
-pub(crate) fn seen(core: &Processor) -> [u32; 32]
-    ensures { result ≡ seen core.now.registers }
+pub(crate) fn general_seen(core: &Processor) -> [u32; 32]
+    ensures { result ≡ general_seen core.now.registers }
 {
     let mut registers = core.registers;
     if let Some(late) = core.late {

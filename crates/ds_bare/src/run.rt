@@ -10,7 +10,7 @@ ghost use Rattle.ds_bare.specs.Endings.{word_at_pc};
 ghost use Rattle.ds_bare.specs.Steps.{before_word, others};
 ghost use Rattle.ds_bare.specs.Shows.{lines_shown};
 ghost use Rattle.ds_bare.specs.Ends.{end_text};
-ghost use Rattle.ds_bare.specs.Runs.{IsCutBetween, bare_text, ended, ending_from, run_from, told, turned};
+ghost use Rattle.ds_bare.specs.Runs.{IsCutBetween, bare_text, ending_at, ending_from, run_from, step_told, turned};
 
 use crate::before::Before;
 use crate::end::push_end;
@@ -94,7 +94,7 @@ fn run<'a, O: Output>(
 
 /// Does one instruction, when so many are done, tells of it, and answers why the run ends with it.
 #[inline(always)]
-#[tactic(auto, unfolding(crate::specs::Runs::told, crate::specs::Runs::turn_text, crate::specs::Runs::ended, crate::specs::Runs::turned, crate::specs::Endings::ending_of), using(crate::proofs::CutBetween::asked_none))]
+#[tactic(auto, unfolding(crate::specs::Runs::step_told, crate::specs::Runs::turn_text, crate::specs::Runs::ending_at, crate::specs::Runs::turned, crate::specs::Endings::ending_of), using(crate::proofs::CutBetween::asked_none))]
 fn turn<'a, O: Output>(
     alloc: Global,
     machine: &mut Machine<'a>,
@@ -105,11 +105,11 @@ fn turn<'a, O: Output>(
 ) -> Result<Option<Ending>, BareFault>
     requires { done < 2 ^ 32 }
     ensures ok { OnOk result (Appends (O.contents out.old) (O.contents out.new)
-        (told view.now done machine.old)) }
-    ensures ending { IfOk result (λ e. e ≡ ended done machine.old) }
+        (step_told view.now done machine.old)) }
+    ensures ending { IfOk result (λ e. e ≡ ending_at done machine.old) }
     ensures state { OnOk result (machine.new ≡ turned done machine.old) }
     ensures err { OnErr result (AppendsPart (O.contents out.old) (O.contents out.new)
-        (told view.now done machine.old)) }
+        (step_told view.now done machine.old)) }
     ensures cut { IfErr result (λ f. is_cut f ≡ true) }
     ensures short { IfErr result (λ f. f ≡ fault.Memory
         → Keeps (O.contents out.old) (O.contents out.new)) }

@@ -1,13 +1,13 @@
 //! The line of a step.
 ghost use Rattle.std.specs.Prelude.{◌≡◌, ◌≤◌, ◌<◌, ◌+◌, ◌++◌, OnOk, length};
 ghost use Rattle.std.specs.String.{string_bytes};
-ghost use Rattle.ds_bare.specs.Steps.{change_text, changes_text, done_text, event_text, front_text, instruction_text, late_text, line_text, raised_text, registers_text, slot_text, stored_text, word_stored, written_text};
+ghost use Rattle.ds_bare.specs.Steps.{change_text, changes_text, wrote_text, event_text, front_text, instruction_text, late_text, numbered_step_text, raised_text, changed_registers_text, slot_written_text, stored_text, word_stored, written_text};
 
 use crate::before::{Before, Stored};
 use crate::ending::Processor;
 use crate::entries::push_slot;
 use crate::names::{push_code, push_name};
-use crate::registers::{others, seen};
+use crate::registers::{general_seen, others};
 use ds_core::Event;
 use ds_dev::Bus;
 use ds_isa::Late;
@@ -19,7 +19,7 @@ use std::alloc::AllocError;
 
 /// Adds the line of the step with this number, by what was before it and what it left, with registers
 /// called by these names.
-#[tactic(auto, unfolding(crate::specs::Steps::line_text))]
+#[tactic(auto, unfolding(crate::specs::Steps::numbered_step_text))]
 pub(crate) fn push_line(
     text: &mut String,
     names: RegisterNames,
@@ -30,7 +30,7 @@ pub(crate) fn push_line(
     bus: &Bus,
 ) -> Result<(), AllocError>
     ensures { OnOk result (string_bytes text.new ≡ string_bytes text.old
-        ++ line_text names number before.now event core.now bus.now) }
+        ++ numbered_step_text names number before.now event core.now bus.now) }
 {
     push_front(text, names, number, before.pc, before.word)?;
     push_written(text, names, before, event, core, bus)?;
@@ -99,7 +99,7 @@ fn push_done(
     bus: &Bus,
 ) -> Result<(), AllocError>
     ensures { OnOk result (string_bytes text.new
-        ≡ string_bytes text.old ++ done_text names before.now core.now bus.now) }
+        ≡ string_bytes text.old ++ wrote_text names before.now core.now bus.now) }
 {
     push_slot_written(text, core, before.slot)?;
     push_stored(text, bus, before.stored)?;
@@ -113,7 +113,7 @@ fn push_slot_written(
     slot: Option<usize>,
 ) -> Result<(), AllocError>
     ensures { OnOk result
-        (string_bytes text.new ≡ string_bytes text.old ++ slot_text core.now.entries slot) }
+        (string_bytes text.new ≡ string_bytes text.old ++ slot_written_text core.now.entries slot) }
 {
     match slot {
         Some(slot) if slot < 64 => {
@@ -167,7 +167,7 @@ fn push_late(text: &mut String, names: RegisterNames, late: Option<Late>) -> Res
 }
 
 /// Adds the registers that changed.
-#[tactic(auto, unfolding(crate::specs::Steps::registers_text))]
+#[tactic(auto, unfolding(crate::specs::Steps::changed_registers_text))]
 fn push_registers(
     text: &mut String,
     names: RegisterNames,
@@ -176,9 +176,9 @@ fn push_registers(
     bus: &Bus,
 ) -> Result<(), AllocError>
     ensures { OnOk result (string_bytes text.new
-        ≡ string_bytes text.old ++ registers_text names before.now core.now bus.now) }
+        ≡ string_bytes text.old ++ changed_registers_text names before.now core.now bus.now) }
 {
-    push_changes(text, names, 0, &before.registers, &seen(core))?;
+    push_changes(text, names, 0, &before.registers, &general_seen(core))?;
     push_changes(text, names, 32, &before.others, &others(core, bus))
 }
 

@@ -25,8 +25,8 @@ one_more line lines = elim (cases_Bool (is_skipped line)) [
 
 pub event_more : (count n whole : ℕ) (text line rest : List ℕ) → line ≡ before_first is_line_feed text → rest ≡ after_first is_line_feed text
     → n ≡ (if is_skipped line then 0 else 1) → count + events_in text ≡ whole → count + n + events_in rest ≡ whole
-event_more count n whole text line rest first behind added h =
-    let whole_text : events_in text ≡ n + events_in rest = rw (added, first, behind) (events_first text ∙ one_more (before_first is_line_feed text) (lines_of (after_first is_line_feed text))) in
+event_more count n whole text line rest first afterwards added h =
+    let whole_text : events_in text ≡ n + events_in rest = rw (added, first, afterwards) (events_first text ∙ one_more (before_first is_line_feed text) (lines_of (after_first is_line_feed text))) in
     omega (arith, whole_text, h)
 
 pub no_event : (count whole : ℕ) (text : List ℕ) → length text ≡ 0 → count + events_in text ≡ whole → count ≡ whole

@@ -4,7 +4,8 @@ use Rattle.std.specs.Prelude.{cond, not, bytes_eq, position, slice_get, option_a
 use Rattle.std.specs.List.{position_or_len}
 use Rattle.std.proofs.lemmas.Option.{slice_get-map}
 use Rattle.std.proofs.lemmas.List.{length-map}
-use Rattle.ds_check.specs.Starts.{assembled, spot_between, spot_in}
+use Rattle.ds_check.specs.Starts.{spot_between, spot_in}
+use Rattle.ds_check.specs.Inner.Starts.{assembled}
 use Rattle.ds_check.specs.declared.starts.AssembledSources.{AssembledSources}
 
 abbrev Lent : Type 0

@@ -6,7 +6,7 @@ use Rattle.ds_isa.specs.Access.{access_size}
 use Rattle.ds_isa.specs.Uses.{uses}
 use Rattle.ds_isa.specs.Instruction.{instruction_of}
 use Rattle.ds_isa.specs.Shapes.{is_branch}
-use Rattle.ds_listing.specs.Listing.{Row}
+use Rattle.ds_listing.specs.Listing.{ListedLine}
 use Rattle.ds_listing.specs.Sources.{word_of_bytes}
 use Rattle.ds_check.specs.declared.notes.instruction.CodeNote.{CodeNote}
 use Rattle.ds_check.specs.declared.notes.instruction.CodeNote.TheVariants.{BranchInSlot, LoadDelay, KernelRegister}
@@ -38,9 +38,9 @@ differing first (Some n) = if is_register first n then None else Some n
 
 -- the register that a load leaves for the instruction after next; of the instructions with an access
 -- the loads alone write one
-abbrev pub loading : Option Instr → Option ℕ
-loading None = None
-loading (Some i) = if is_some (access_size i) then other_than_0 (uses i).writes else None
+abbrev pub register_loading : Option Instr → Option ℕ
+register_loading None = None
+register_loading (Some i) = if is_some (access_size i) then other_than_0 (uses i).writes else None
 
 -- the loads that merge a part of a word into their register, of which they read the newest value
 abbrev pub merges : Instr → Bool
@@ -67,8 +67,8 @@ operand_notes at register (Some n) = noted (is_register register n) at (LoadDela
 abbrev pub instruction_notes : WordPlace → Option Instr → Instr → List PlacedNote
 instruction_notes at before i =
     noted (follows_branch before && is_branch (uses i).shape) at BranchInSlot
-    ++ (operand_notes at (loading before) (uses i).reads.rs
-    ++ operand_notes at (late_operand (loading before) i) (differing (uses i).reads.rs (uses i).reads.rt))
+    ++ (operand_notes at (register_loading before) (uses i).reads.rs
+    ++ operand_notes at (late_operand (register_loading before) i) (differing (uses i).reads.rs (uses i).reads.rt))
 
 -- the instruction that four bytes are; other bytes are data
 abbrev pub instruction_in : List ℕ → Option Instr
@@ -84,9 +84,9 @@ jumps (Some (instr.Jalr rd rs)) = true
 jumps other = false
 
 -- the instruction that is done right before those of the next line; a line without bytes changes nothing
-abbrev pub after : Option Instr → List ℕ → Option Instr
-after before [] = before
-after before (b ∷ bytes) = if jumps before then None else instruction_in (b ∷ bytes)
+abbrev pub last_done : Option Instr → List ℕ → Option Instr
+last_done before [] = before
+last_done before (b ∷ bytes) = if jumps before then None else instruction_in (b ∷ bytes)
 
 -- the notes on a line with these bytes
 abbrev pub line_notes : WordPlace → Option Instr → List ℕ → List PlacedNote
@@ -97,6 +97,6 @@ line_notes at before bytes = of_instruction (instruction_in bytes)
     of_instruction (Some i) = instruction_notes at before i
 
 -- the notes on lines, of which the first comes after an instruction
-abbrev pub notes_after : Option Instr → List Row → List PlacedNote
+abbrev pub notes_after : Option Instr → List ListedLine → List PlacedNote
 notes_after before [] = []
-notes_after before (row ∷ rows) = line_notes (record { line = row.number; offset = row.place }) before row.bytes ++ notes_after (after before row.bytes) rows
+notes_after before (row ∷ rows) = line_notes (record { line = row.number; offset = row.place }) before row.bytes ++ notes_after (last_done before row.bytes) rows

@@ -68,8 +68,8 @@ abbrev pub count_due : ℕ → List Due → ℕ
 count_due time ks = prefix_len (λ (k : Due). nat_le (time_of k) time) ks
 
 -- the first of the characters of a line: their time, their line, and the character itself
-abbrev pub key_text : Character → List ℕ
-key_text c = decimal c.time ++ codes " key " ++ decimal c.line ++ codes " " ++ hex2 c.byte
+abbrev pub characters_key_text : Character → List ℕ
+characters_key_text c = decimal c.time ++ codes " key " ++ decimal c.line ++ codes " " ++ hex2 c.byte
 
 -- a character comes in on the line and at the time of the one before it
 abbrev pub comes_with : Option Character → Character → Bool
@@ -77,15 +77,15 @@ comes_with None c = false
 comes_with (Some b) c = b.time == c.time && b.line == c.line
 
 -- the end of a line of characters
-abbrev pub end_text : Option Character → List ℕ
-end_text None = []
-end_text (Some c) = codes "\n"
+abbrev pub characters_end_text : Option Character → List ℕ
+characters_end_text None = []
+characters_end_text (Some c) = codes "\n"
 
 -- a character: after those that it comes with, or after the ends and commands that come no later
 abbrev pub step_text : List PolicyPage → Option Character → List Due → Character → List ℕ
 step_text pages last ks c =
     if comes_with last c then hex2 c.byte
-    else end_text last ++ flat_map (due_text pages) (take (count_due c.time ks) ks) ++ key_text c
+    else characters_end_text last ++ flat_map (due_text pages) (take (count_due c.time ks) ks) ++ characters_key_text c
 
 -- how many ends and commands come before a character, and after the one before it
 abbrev pub step_count : Option Character → List Due → Character → ℕ
@@ -93,7 +93,7 @@ step_count last ks c = if comes_with last c then 0 else count_due c.time ks
 
 -- characters after one, and ends and commands between them
 abbrev pub events_from : List PolicyPage → Option Character → List Due → List Character → List ℕ
-events_from pages last ks [] = end_text last ++ flat_map (due_text pages) ks
+events_from pages last ks [] = characters_end_text last ++ flat_map (due_text pages) ks
 events_from pages last ks (c ∷ cs) = step_text pages last ks c ++ events_from pages (Some c) (drop (step_count last ks c) ks) cs
 
 -- what comes where a policy is run with an input: at one time ends first, then commands

@@ -6,7 +6,7 @@ use Rattle.ds_check.specs.declared.items.Items.{Items}
 use Rattle.ds_check.specs.declared.items.Items.TheVariants.{Processes, Pages, Rules}
 use Rattle.ds_check.specs.declared.places.Place.{Place}
 use Rattle.ds_check.specs.Lines.{line_at}
-use Rattle.ds_check.specs.Places.{after}
+use Rattle.ds_check.specs.Places.{next_place}
 
 -- the key of an array
 abbrev pub key_of : Items → List ℕ
@@ -29,8 +29,8 @@ abbrev pub said_in : List ℕ → List ℕ
 said_in line = drop (prefix_len is_blank line) line
 
 -- a line that begins, after blanks, with this word
-abbrev pub begins_with : List ℕ → List ℕ → Bool
-begins_with word line = starts_with (λ a b. a == b) (said_in line) word
+abbrev pub begins_with_word : List ℕ → List ℕ → Bool
+begins_with_word word line = starts_with (λ a b. a == b) (said_in line) word
 
 -- what may stand directly after a key
 abbrev pub ends_key : Option ℕ → Bool
@@ -39,26 +39,26 @@ ends_key (Some b) = is_blank b || b == 61
 
 -- a line that begins, after blanks, with this key
 abbrev pub begins_key : List ℕ → List ℕ → Bool
-begins_key key line = begins_with key line && ends_key (slice_get (said_in line) (length key))
+begins_key key line = begins_with_word key line && ends_key (slice_get (said_in line) (length key))
 
 -- the number of the first of some lines that begins with a key, where line n is the first; lines from one on that begins with a bracket are none of them
 abbrev pub key_from : List ℕ → ℕ → List (List ℕ) → Option ℕ
 key_from key n [] = None
-key_from key n (line ∷ lines) = if begins_with (codes "[") line then None else if begins_key key line then Some n else key_from key (n + 1) lines
+key_from key n (line ∷ lines) = if begins_with_word (codes "[") line then None else if begins_key key line then Some n else key_from key (n + 1) lines
 
 -- the number of the k-th of some lines that begins with a header, where line n is the first
 abbrev pub header_from : List ℕ → ℕ → ℕ → List (List ℕ) → Option ℕ
 header_from header n k [] = None
 header_from header n k (line ∷ lines) =
-    if begins_with header line && nat_le k 1 then Some n
-    else header_from header (n + 1) (if begins_with header line then k - 1 else k) lines
+    if begins_with_word header line && nat_le k 1 then Some n
+    else header_from header (n + 1) (if begins_with_word header line then k - 1 else k) lines
 
 -- where the k-th brace stands in line n or after it, in a text that begins at a place
 abbrev pub brace_from : ℕ → Place → ℕ → List ℕ → Option Place
 brace_from n p k [] = None
 brace_from n p k (b ∷ text) =
     let is_one = b == 123 && nat_le n p.line in
-    if is_one && nat_le k 1 then Some p else brace_from n (after p b) (if is_one then k - 1 else k) text
+    if is_one && nat_le k 1 then Some p else brace_from n (next_place p b) (if is_one then k - 1 else k) text
 
 -- where a line begins, after blanks
 abbrev pub start_in : List ℕ → ℕ → Place

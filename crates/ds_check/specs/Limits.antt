@@ -7,12 +7,12 @@ use Rattle.ds_policy.specs.PolicyParts.{regions_of}
 use Rattle.ds_policy.specs.Value.{PolicyValue}
 
 -- a mark where nine tenths of a limit are reached; the end of the line
-abbrev pub near_text : ℕ → ℕ → List ℕ
-near_text count limit = if nat_le (9 * limit) (10 * count) then codes ", near\n" else codes "\n"
+abbrev pub near_limit_text : ℕ → ℕ → List ℕ
+near_limit_text count limit = if nat_le (9 * limit) (10 * count) then codes ", near\n" else codes "\n"
 
 -- a count and its limit
 abbrev pub limit_text : List ℕ → ℕ → ℕ → List ℕ
-limit_text what count limit = what ++ decimal count ++ codes " of " ++ decimal limit ++ near_text count limit
+limit_text what count limit = what ++ decimal count ++ codes " of " ++ decimal limit ++ near_limit_text count limit
 
 -- how many rules a process has
 abbrev pub entries_in : List PolicyRule → ℕ → ℕ
@@ -32,8 +32,8 @@ of_all p events =
     ++ limit_text (codes "events ") events 4096
 
 -- what a process has
-abbrev pub of_process : List PolicyRule → ℕ → List ℕ
-of_process rules process =
+abbrev pub limits_of_process : List PolicyRule → ℕ → List ℕ
+limits_of_process rules process =
     codes "process " ++ decimal process ++ codes "\n"
     ++ limit_text (codes "  entries ") (entries_in rules process) 256
     ++ limit_text (codes "  regions ") (count_distinct (regions_of process rules)) 4
@@ -41,7 +41,7 @@ of_process rules process =
 -- what the processes from 1 to n have
 abbrev pub of_processes : List PolicyRule → ℕ → List ℕ
 of_processes rules zero = []
-of_processes rules (suc n) = of_processes rules n ++ of_process rules (suc n)
+of_processes rules (suc n) = of_processes rules n ++ limits_of_process rules (suc n)
 
 -- what is near a limit
 abbrev pub limits_text : PolicyValue → List ℕ → List ℕ

@@ -14,22 +14,22 @@ abbrev pub register_text : ℕ → List ℕ → List ℕ
 register_text register what = codes ": it reads register " ++ (decimal register ++ what)
 
 -- what is said of an instruction
-abbrev pub code_text : CodeNote → List ℕ
-code_text BranchInSlot = codes ": it is a branch in the slot of another, which is fault 10; put a `nop` between\n"
-code_text (LoadDelay register) = register_text register (codes ", which is still being loaded; put a `nop` between, or compile with `-march=r3000`\n")
-code_text (KernelRegister register) = register_text register (codes ", which the kernel may change before any instruction; take another register\n")
+abbrev pub code_note_text : CodeNote → List ℕ
+code_note_text BranchInSlot = codes ": it is a branch in the slot of another, which is fault 10; put a `nop` between\n"
+code_note_text (LoadDelay register) = register_text register (codes ", which is still being loaded; put a `nop` between, or compile with `-march=r3000`\n")
+code_note_text (KernelRegister register) = register_text register (codes ", which the kernel may change before any instruction; take another register\n")
 
 -- a note on a source of this name
 abbrev pub code_line : List ℕ → PlacedNote → List ℕ
-code_line name note = name ++ (codes " " ++ (decimal note.at.line ++ code_text note.note))
+code_line name note = name ++ (codes " " ++ (decimal note.at.line ++ code_note_text note.note))
 
 -- the notes on a source of this name
 abbrev pub code_notes_text : List ℕ → List PlacedNote → List ℕ
 code_notes_text name notes = flat_map (code_line name) notes
 
 -- what is said of a process
-abbrev pub process_line : ℕ → List ℕ → List ℕ
-process_line process what = codes "process " ++ (decimal process ++ what)
+abbrev pub process_note_line : ℕ → List ℕ → List ℕ
+process_note_line process what = codes "process " ++ (decimal process ++ what)
 
 -- what is said of a page
 abbrev pub named_line : PolicyPage → List ℕ → List ℕ
@@ -45,8 +45,8 @@ page_line pages number what = named (slice_get pages number)
 
 -- a note on a policy with these pages
 abbrev pub policy_line : List PolicyPage → PolicyNote → List ℕ
-policy_line pages (StartOffFour process) = process_line process (codes ": its start is no multiple of four, so its first fetch is denied\n")
-policy_line pages (StartNotGranted process) = process_line process (codes ": no rule lets it read the page of its start, so its first fetch is denied\n")
+policy_line pages (StartOffFour process) = process_note_line process (codes ": its start is no multiple of four, so its first fetch is denied\n")
+policy_line pages (StartNotGranted process) = process_note_line process (codes ": no rule lets it read the page of its start, so its first fetch is denied\n")
 policy_line pages (PartPastEnd page) = page_line pages page (codes ": its part begins where its source has no bytes, so it is all zeros\n")
 policy_line pages (UnusedPage page) = page_line pages page (codes ": no rule names it\n")
 policy_line pages (WritableCode page) = page_line pages page (codes ": it has a part of a source, and a rule lets a process write it\n")
@@ -64,12 +64,12 @@ unfoldable pub loses : ℕ → List ℕ
 loses count = decimal (count - 64) ++ codes ": give those after the 64th a later time\n"
 
 -- when characters come in
-unfoldable pub comes_at : ℕ → List ℕ
-comes_at time = codes "input, time " ++ (decimal time ++ codes ": ")
+unfoldable pub comes_at_text : ℕ → List ℕ
+comes_at_text time = codes "input, time " ++ (decimal time ++ codes ": ")
 
 -- what is said of characters that come in together
 abbrev pub crowd_line : Crowd → List ℕ
-crowd_line c = comes_at c.time ++ (come_in c.count ++ loses c.count)
+crowd_line c = comes_at_text c.time ++ (come_in c.count ++ loses c.count)
 
 -- the notes on an input
 abbrev pub crowds_text : List Crowd → List ℕ

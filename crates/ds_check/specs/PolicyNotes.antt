@@ -37,8 +37,8 @@ abbrev pub gives_write : ℕ → PolicyRule → Bool
 gives_write page r = names page r.page && is_write r.right
 
 -- the image of a source, of images in the order of these names
-abbrev pub image_of : List (List ℕ) → List (List ℕ) → List ℕ → Option (List ℕ)
-image_of names images name = option_and_then (λ i. slice_get images i) (position (λ n. bytes_eq n name) names)
+abbrev pub image_by_name : List (List ℕ) → List (List ℕ) → List ℕ → Option (List ℕ)
+image_by_name names images name = option_and_then (λ i. slice_get images i) (position (λ n. bytes_eq n name) names)
 
 -- the part begins where its image has no bytes
 abbrev pub is_past_end : Option (List ℕ) → ℕ → Bool
@@ -48,7 +48,7 @@ is_past_end (Some image) part = nat_le (length image) (4096 * part)
 -- the part of a page begins where the image of its source has no bytes
 abbrev pub source_is_past_end : List (List ℕ) → List (List ℕ) → Option Source → Bool
 source_is_past_end names images None = false
-source_is_past_end names images (Some s) = is_past_end (image_of names images s.name) s.part
+source_is_past_end names images (Some s) = is_past_end (image_by_name names images s.name) s.part
 
 -- the notes on a page
 abbrev pub page_notes : PolicyValue → List (List ℕ) → ℕ → PolicyPage → List PolicyNote

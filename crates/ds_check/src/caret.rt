@@ -1,10 +1,10 @@
 //! A caret below a shown line.
 ghost use Rattle.std.specs.Prelude.{◌≡◌, ◌≤◌, ◌++◌, ◌-◌, OnOk, flat_map, length, if◌then◌else◌};
-ghost use Rattle.ds_check.specs.Carets.{beneath, bytes_from, caret_line, first_characters, place_shown};
-ghost use Rattle.ds_check.specs.Places.{goes_on};
+ghost use Rattle.ds_check.specs.Carets.{beneath, characters_end, caret_line, first_characters, place_shown};
+ghost use Rattle.ds_check.specs.Places.{is_continuation};
 
 use crate::lines::Lines;
-use crate::places::{Place, goes_on};
+use crate::places::{Place, is_continuation};
 use std::alloc::AllocError;
 
 /// Adds the line of a text in which a place is, after four blanks, and below it a caret at the place's
@@ -45,7 +45,7 @@ fn push_beneath(sheet: &mut Vec<u8>, c: u8) -> Result<(), AllocError>
 {
     if c == b'\t' {
         sheet.extend_from_slice(b"\t")
-    } else if goes_on(c) {
+    } else if is_continuation(c) {
         Ok(())
     } else {
         sheet.extend_from_slice(b" ")
@@ -61,7 +61,7 @@ fn first_characters(count: u64, line: &[u8]) -> &[u8]
 
 /// How many bytes so many characters of a line have.
 fn bytes_of(count: u64, line: &[u8]) -> usize
-    ensures exact { result ≡ bytes_from 0 count line.now }
+    ensures exact { result ≡ characters_end 0 count line.now }
     ensures within { result ≤ length line.now }
 {
     let mut place = 0;
@@ -80,9 +80,9 @@ fn bytes_of(count: u64, line: &[u8]) -> usize
 
 /// How many characters are to come after this byte.
 fn characters_after(more: u64, byte: u8) -> u64
-    ensures { result ≡ (if goes_on byte then more else more - 1) }
+    ensures { result ≡ (if is_continuation byte then more else more - 1) }
 {
-    if goes_on(byte) {
+    if is_continuation(byte) {
         more
     } else {
         more.saturating_sub(1)

@@ -2,7 +2,7 @@
 ghost use Rattle.std.specs.Prelude.{◌≡◌, ◌≤◌, ◌++◌, OnOk, IfOk, None, length, take, drop};
 ghost use Rattle.std.specs.List.{flat_map};
 ghost use Rattle.ds_text.specs.Digits.{hex2};
-ghost use Rattle.ds_check.specs.Coming.{command_text, comes_with, count_due, due_text, end_text, events_from, events_text, key_text, loss_text, name_text, page_at, rule_end_text, step_count, step_text};
+ghost use Rattle.ds_check.specs.Coming.{command_text, comes_with, count_due, due_text, characters_end_text, events_from, events_text, characters_key_text, loss_text, name_text, page_at, rule_end_text, step_count, step_text};
 
 use crate::due::{Due, RuleEnd, due_of};
 use crate::words::{push_name, push_words};
@@ -169,7 +169,7 @@ fn push_command(
 
 /// Adds the first of the characters that come in together.
 fn push_key(sheet: &mut Vec<u8>, character: Character) -> Result<(), AllocError>
-    ensures { OnOk result (sheet.new.items ≡ sheet.old.items ++ key_text character) }
+    ensures { OnOk result (sheet.new.items ≡ sheet.old.items ++ characters_key_text character) }
 {
     push_decimal(sheet, character.time)?;
     sheet.extend_from_slice(b" key ")?;
@@ -180,7 +180,7 @@ fn push_key(sheet: &mut Vec<u8>, character: Character) -> Result<(), AllocError>
 
 /// Ends the line of the last character, where there is one.
 fn push_end(sheet: &mut Vec<u8>, last: Option<Character>) -> Result<(), AllocError>
-    ensures { OnOk result (sheet.new.items ≡ sheet.old.items ++ end_text last) }
+    ensures { OnOk result (sheet.new.items ≡ sheet.old.items ++ characters_end_text last) }
 {
     match last {
         Some(_) => sheet.extend_from_slice(b"\n"),

@@ -3,10 +3,10 @@
 ghost use Rattle.std.specs.Prelude.{◌≡◌, ◌≤◌, ◌==◌, ◌&&◌, ◌-◌, nat_le, length, if◌then◌else◌, option_map, IfSome};
 ghost use Rattle.std.specs.List.{prefix_len};
 ghost use Rattle.ds_asm.specs.Assembly.{lines_of};
-ghost use Rattle.ds_check.specs.Items.{begins_key, begins_with, brace_from, ends_key, header_from, header_of, is_blank, item_place, key_from, key_of, root_key_place, said_in, start_in, table_place};
+ghost use Rattle.ds_check.specs.Items.{begins_key, begins_with_word, brace_from, ends_key, header_from, header_of, is_blank, item_place, key_from, key_of, root_key_place, said_in, start_in, table_place};
 
 use crate::lines::after_lines;
-use crate::places::{Place, after};
+use crate::places::{Place, next_place};
 use ds_asm::first_line;
 
 /// The arrays of a policy.
@@ -94,7 +94,7 @@ fn key_line(key: &[u8], first: u64, text: &[u8]) -> Option<u64>
     let mut left = text;
     while !left.is_empty() {
         let (line, rest) = first_line(left);
-        if begins_with(b"[", line) {
+        if begins_with_word(b"[", line) {
             return None;
         }
         if begins_key(key, line) {
@@ -117,7 +117,7 @@ fn header_line(header: &[u8], wanted: u32, text: &[u8]) -> Option<u64>
     let mut left = text;
     while !left.is_empty() {
         let (line, rest) = first_line(left);
-        let is_one = begins_with(header, line);
+        let is_one = begins_with_word(header, line);
         if is_last(is_one, more) {
             return Some(number);
         }
@@ -142,7 +142,7 @@ fn brace_place(line: u64, wanted: u32, text: &[u8]) -> Option<Place>
             return Some(place);
         }
         more = one_less(is_one, more);
-        place = after(place, *byte);
+        place = next_place(place, *byte);
         left = rest;
     }
     None
@@ -183,7 +183,7 @@ fn start_in(text: &[u8], number: u64) -> Place
 fn begins_key(key: &[u8], line: &[u8]) -> bool
     ensures { result ≡ begins_key key.now line.now }
 {
-    begins_with(key, line) && ends_key(said_in(line).get(key.len()))
+    begins_with_word(key, line) && ends_key(said_in(line).get(key.len()))
 }
 
 /// Whether this is what may stand directly after a key.
@@ -197,8 +197,8 @@ fn ends_key(byte: Option<&u8>) -> bool
 }
 
 /// Whether a line begins with a word, after blanks.
-fn begins_with(word: &[u8], line: &[u8]) -> bool
-    ensures { result ≡ begins_with word.now line.now }
+fn begins_with_word(word: &[u8], line: &[u8]) -> bool
+    ensures { result ≡ begins_with_word word.now line.now }
 {
     said_in(line).starts_with(word)
 }

@@ -2,7 +2,7 @@
 ghost use Rattle.std.specs.Prelude.{◌≡◌, ◌≤◌, ◌+◌, ◌*◌, ◌++◌, OnOk, IfOk, length, nat_le, count_by, ◌==◌};
 ghost use Rattle.ds_policy.specs.Grants.{count_distinct};
 ghost use Rattle.ds_policy.specs.PolicyParts.{regions_of};
-ghost use Rattle.ds_check.specs.Limits.{limits_text, of_all, of_processes, of_process, limit_text, entries_in, near_text};
+ghost use Rattle.ds_check.specs.Limits.{limits_text, of_all, of_processes, limits_of_process, limit_text, entries_in, near_limit_text};
 
 use crate::counts::{count_entries, count_events};
 use ds_policy::{OutOfMemory, Policy, PolicyRule, count_regions};
@@ -60,7 +60,7 @@ fn push_processes(
 }
 
 fn push_process(sheet: &mut Vec<u8>, rules: &[PolicyRule], process: u32) -> Result<(), AllocError>
-    ensures { OnOk result (sheet.new.items ≡ sheet.old.items ++ of_process rules.now process) }
+    ensures { OnOk result (sheet.new.items ≡ sheet.old.items ++ limits_of_process rules.now process) }
 {
     sheet.extend_from_slice(b"process ")?;
     push_decimal(sheet, u64::from(process))?;
@@ -87,7 +87,7 @@ fn push_limit(
 
 /// Whether nine tenths of the limit are reached, and the end of the line.
 fn near_word(count: usize, limit: usize) -> &'static [u8]
-    ensures { result.now ≡ near_text count limit }
+    ensures { result.now ≡ near_limit_text count limit }
 {
     if is_near(count, limit) {
         b", near\n"

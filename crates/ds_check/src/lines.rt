@@ -2,7 +2,7 @@
 ghost use Rattle.std.specs.Prelude.{◌≡◌, ◌≤◌, ◌-◌, drop, length};
 ghost use Rattle.std.specs.List.{before_first};
 ghost use Rattle.ds_asm.specs.Assembly.{lines_of};
-ghost use Rattle.ds_check.specs.Lines.{StandAt};
+ghost use Rattle.ds_check.specs.Inner.Lines.{StandAt};
 
 use ds_asm::first_line;
 use std::alloc::AllocError;
@@ -19,7 +19,7 @@ pub struct Lines<'a> {
 
 impl<'a> Model for Lines<'a> {
     ghost use Rattle.std.specs.Prelude.{ℕ, List};
-    ghost use Rattle.ds_check.specs.Lines.{StandAt};
+    ghost use Rattle.ds_check.specs.Inner.Lines.{StandAt};
 
     ghost Value = { List ℕ };
 

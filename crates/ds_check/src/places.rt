@@ -2,7 +2,7 @@
 ghost use Rattle.std.specs.Prelude.{ℕ, ◌≡◌, ◌≤◌, length, not, is_some, IfOk, IfSome};
 ghost use Rattle.std.specs.List.{fold};
 ghost use Rattle.ds_policy.specs.Document.{document};
-ghost use Rattle.ds_check.specs.Places.{place_at, after, goes_on};
+ghost use Rattle.ds_check.specs.Places.{place_at, next_place, is_continuation};
 
 use ds_policy::OutOfMemory;
 use std::alloc::Global;
@@ -34,27 +34,27 @@ pub fn toml_place(alloc: Global, text: &[u8]) -> Result<Option<Place>, OutOfMemo
 /// The place after a text.
 fn place_after(before: &[u8]) -> Place
     requires { length before.now ≤ 16777216 }
-    ensures { result ≡ fold after (record { line = 1; column = 1 }) before.now }
+    ensures { result ≡ fold next_place (record { line = 1; column = 1 }) before.now }
 {
     let mut place = Place { line: 1, column: 1 };
     for byte in before {
-        place = after(place, *byte);
+        place = next_place(place, *byte);
     }
     place
 }
 
 /// The place after a byte.
-pub(crate) fn after(place: Place, byte: u8) -> Place
+pub(crate) fn next_place(place: Place, byte: u8) -> Place
     requires line { place.line ≤ 16777216 }
     requires column { place.column ≤ 16777216 }
-    ensures { result ≡ after place byte }
+    ensures { result ≡ next_place place byte }
 {
     if byte == b'\n' {
         Place {
             line: place.line + 1,
             column: 1,
         }
-    } else if goes_on(byte) {
+    } else if is_continuation(byte) {
         place
     } else {
         Place {
@@ -65,8 +65,8 @@ pub(crate) fn after(place: Place, byte: u8) -> Place
 }
 
 /// Whether a byte goes on with a character of UTF-8.
-pub(crate) fn goes_on(byte: u8) -> bool
-    ensures { result ≡ goes_on byte }
+pub(crate) fn is_continuation(byte: u8) -> bool
+    ensures { result ≡ is_continuation byte }
 {
     byte >= 0x80 && byte <= 0xBF
 }

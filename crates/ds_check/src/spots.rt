@@ -1,7 +1,8 @@
 //! Where a byte of an image stands in its source.
 ghost use Rattle.std.specs.Prelude.{◌≡◌, ◌≤◌, ◌<◌, ◌==◌, None, length, option_map, take, drop};
 ghost use Rattle.ds_listing.specs.Listing.{rows_of};
-ghost use Rattle.ds_check.specs.Spots.{label_after, seen, spot_after};
+ghost use Rattle.ds_check.specs.Spots.{label_after, spot_after};
+ghost use Rattle.ds_check.specs.Inner.Spots.{seen};
 
 use ds_asm::{Image, first_line, source_line};
 
@@ -32,7 +33,7 @@ fn spot_between<'a>(text: &'a [u8], image: &[u8], byte: u32) -> Option<Spot<'a>>
     let mut rest = text;
     let mut left = image;
     while !rest.is_empty() {
-        let (front, behind) = first_line(rest);
+        let (front, afterwards) = first_line(rest);
         let said = source_line(front);
         let (bytes, further) = cut(left, said.size);
         line += 1;
@@ -42,7 +43,7 @@ fn spot_between<'a>(text: &'a [u8], image: &[u8], byte: u32) -> Option<Spot<'a>>
             return Some(Spot { line, label });
         }
         left = further;
-        rest = behind;
+        rest = afterwards;
     }
     None
 }
@@ -66,7 +67,7 @@ fn label_after<'a>(
 /// So many bytes, or all where they are fewer, and what stands after them.
 fn cut(bytes: &[u8], size: u64) -> (&[u8], &[u8])
     ensures front { result.0.now ≡ take size bytes.now }
-    ensures behind { result.1.now ≡ drop size bytes.now }
+    ensures afterwards { result.1.now ≡ drop size bytes.now }
 {
     if size < bytes.len() as u64 {
         bytes.split_at(size as usize)

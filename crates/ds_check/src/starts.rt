@@ -1,7 +1,8 @@
 //! Where the processes of a policy start, as text.
 ghost use Rattle.std.specs.Prelude.{◌≡◌, ◌≤◌, ◌<◌, ◌^◌, ◌++◌, ◌*◌, ◌+◌, OnOk, IfOk, IfSome, length, map, position, bytes_eq, option_map, slice_get};
-ghost use Rattle.ds_check.specs.Spots.{seen};
-ghost use Rattle.ds_check.specs.Starts.{assembled, count_text, granted_source, head_text, label_text, part_text, place_text, spot_in, start_text, start_texts, starts_text};
+ghost use Rattle.ds_check.specs.Inner.Spots.{seen};
+ghost use Rattle.ds_check.specs.Starts.{entries_count_text, granted_source, start_head_text, label_text, part_place_text, place_text, spot_in, start_text, start_texts, starts_text};
+ghost use Rattle.ds_check.specs.Inner.Starts.{assembled};
 
 use crate::spots::{Spot, spot_of};
 use ds_asm::Image;
@@ -85,7 +86,7 @@ fn push_start<'a>(
 }
 
 fn push_head(sheet: &mut Vec<u8>, process: u32, start: u32) -> Result<(), AllocError>
-    ensures { OnOk result (sheet.new.items ≡ sheet.old.items ++ head_text process start) }
+    ensures { OnOk result (sheet.new.items ≡ sheet.old.items ++ start_head_text process start) }
 {
     sheet.extend_from_slice(b"process ")?;
     push_decimal(sheet, u64::from(process))?;
@@ -94,7 +95,7 @@ fn push_head(sheet: &mut Vec<u8>, process: u32, start: u32) -> Result<(), AllocE
 }
 
 fn push_count(sheet: &mut Vec<u8>, entries: usize) -> Result<(), AllocError>
-    ensures { OnOk result (sheet.new.items ≡ sheet.old.items ++ count_text entries) }
+    ensures { OnOk result (sheet.new.items ≡ sheet.old.items ++ entries_count_text entries) }
 {
     sheet.extend_from_slice(b", entries ")?;
     push_decimal(sheet, entries as u64)?;
@@ -121,7 +122,7 @@ fn push_part<'a>(
 ) -> Result<(), AllocError>
     requires { byte < 4096 }
     ensures { OnOk result (sheet.new.items ≡ sheet.old.items
-        ++ part_text (assembled sources.entry) byte (option_map (λ s. s.now) source.entry)) }
+        ++ part_place_text (assembled sources.entry) byte (option_map (λ s. s.now) source.entry)) }
 {
     match source {
         Some(source) => {
@@ -165,7 +166,7 @@ fn push_label(sheet: &mut Vec<u8>, label: Option<&[u8]>) -> Result<(), AllocErro
 fn spot_in<'a>(sources: AssembledSources<'a>, name: &str, byte: u32) -> Option<Spot<'a>>
     ensures { option_map seen result ≡ spot_in (assembled sources.entry) name.now byte }
 {
-    let index = place_of(sources.sources, name)?;
+    let index = place_of_name(sources.sources, name)?;
     let text = text_at(sources.sources, index)?;
     let image = image_at(sources.images, index)?;
     spot_of(text, image, byte)
@@ -187,7 +188,7 @@ fn image_at(images: &[Image], index: usize) -> Option<&Image>
     images.get(index)
 }
 
-fn place_of(sources: &[(&str, &[u8])], name: &str) -> Option<usize>
+fn place_of_name(sources: &[(&str, &[u8])], name: &str) -> Option<usize>
     ensures { result ≡ position (λ s. bytes_eq s.0.now name.now) sources.now }
 {
     sources.iter().position(|source| source.0 == name)

@@ -12,8 +12,9 @@ use Rattle.ds_cp0.specs.declared.exception.ExceptionCode.TheVariants.{FetchBus}
 use Rattle.ds_dev.specs.declared.fault.BusError.{BusError}
 use Rattle.ds_dev.specs.Bus.{BusState}
 use Rattle.ds_core.specs.Core.{CoreState, Step, trapped}
-use Rattle.ds_core.specs.Access.{reached, aligned_load, decoded}
-use Rattle.ds_core.specs.Effect.{executed, fetch_answered, fetched_from, instruction}
+use Rattle.ds_core.specs.Access.{reached, aligned_load}
+use Rattle.ds_core.specs.Inner.Access.{decoded}
+use Rattle.ds_core.specs.Effect.{executed, fetch_answered, fetched_from, instruction_step}
 
 -- what the bus answered, as an instruction or an error
 answered : (c : CoreState) (b : BusState) (r : Result ℕ BusError) (i : Instr) → decoded r ≡ Ok i → executed c b i ≡ fetch_answered c b r
@@ -25,16 +26,16 @@ refused : (c : CoreState) (b : BusState) (r : Result ℕ BusError) (e : BusError
 refused c b (Ok w) e is = absurd cc
 refused c b (Err f) e is = refl
 
-at_place : (c c1 : CoreState) (b : BusState) (p : Physical) → reached c Fetch Word c.pc ≡ Ok p → c1 ≡ c → fetched_from c1 b (Ok p) ≡ instruction c b
+at_place : (c c1 : CoreState) (b : BusState) (p : Physical) → reached c Fetch Word c.pc ≡ Ok p → c1 ≡ c → fetched_from c1 b (Ok p) ≡ instruction_step c b
 at_place c c1 b p is same = ap (λ k. fetched_from k b (Ok p)) same ∙ ap (fetched_from c b) (sym is)
 
 -- the instruction at pc, where its word was answered
-pub instruction_at : (c c1 : CoreState) (b b2 : BusState) (p : Physical) (i : Instr) (s : Step) → reached c Fetch Word c.pc ≡ Ok p → c1 ≡ c → Ok i ≡ decoded (aligned_load b p.0 Word).0 → b2 ≡ (aligned_load b p.0 Word).1 → s ≡ executed c1 b2 i → s ≡ instruction c b
+pub instruction_at : (c c1 : CoreState) (b b2 : BusState) (p : Physical) (i : Instr) (s : Step) → reached c Fetch Word c.pc ≡ Ok p → c1 ≡ c → Ok i ≡ decoded (aligned_load b p.0 Word).0 → b2 ≡ (aligned_load b p.0 Word).1 → s ≡ executed c1 b2 i → s ≡ instruction_step c b
 instruction_at c c1 b b2 p i s is same word bus done =
     done ∙ (ap (λ k. executed c1 k i) bus ∙ (answered c1 (aligned_load b p.0 Word).1 (aligned_load b p.0 Word).0 i (sym word) ∙ at_place c c1 b p is same))
 
 -- the same where the bus refused
-pub refused_at : (c c1 : CoreState) (b b2 : BusState) (p : Physical) (e : BusError) (s : Step) → reached c Fetch Word c.pc ≡ Ok p → c1 ≡ c → Err e ≡ decoded (aligned_load b p.0 Word).0 → b2 ≡ (aligned_load b p.0 Word).1 → s ≡ trapped c1 b2 FetchBus → s ≡ instruction c b
+pub refused_at : (c c1 : CoreState) (b b2 : BusState) (p : Physical) (e : BusError) (s : Step) → reached c Fetch Word c.pc ≡ Ok p → c1 ≡ c → Err e ≡ decoded (aligned_load b p.0 Word).0 → b2 ≡ (aligned_load b p.0 Word).1 → s ≡ trapped c1 b2 FetchBus → s ≡ instruction_step c b
 refused_at c c1 b b2 p e s is same word bus done =
     done ∙ (ap (λ k. trapped c1 k FetchBus) bus ∙ (refused c1 (aligned_load b p.0 Word).1 (aligned_load b p.0 Word).0 e (sym word) ∙ at_place c c1 b p is same))
 

@@ -1,10 +1,9 @@
 -- The processor as a record, and how it goes on after an instruction or an exception (Kane and Heinrich, chapter 5).
-use Rattle.std.specs.Prelude.{ℕ, ◌+◌, Bool, true, false, List, Option, Some, None}
+use Rattle.std.specs.Prelude.{ℕ, ◌+◌, Bool, true, false, List, None}
 use Rattle.ds_word.specs.Word.{word}
-use Rattle.ds_isa.specs.Registers.{Registers, settled, written}
-use Rattle.ds_isa.specs.Meaning.{behind_slot}
+use Rattle.ds_isa.specs.Registers.{Registers, settled}
 use Rattle.ds_tlb.specs.declared.entry.Entry.{Entry}
-use Rattle.ds_tlb.specs.Entries.{ticked}
+use Rattle.ds_tlb.specs.Entries.{random_after}
 use Rattle.ds_cp0.specs.declared.exception.Exception.{Exception}
 use Rattle.ds_cp0.specs.declared.exception.ExceptionCode.{ExceptionCode}
 use Rattle.ds_cp0.specs.declared.exception.ExceptionCode.TheVariants.{ReservedInstruction}
@@ -31,12 +30,6 @@ pub record Step : Type 0 where
   pub core : CoreState
   pub bus : BusState
 
--- whether an exception is entered; an interrupt is one
-abbrev pub is_raised : Event → Bool
-is_raised Retired = false
-is_raised Branched = false
-is_raised (Raised code) = true
-
 -- the exception of an instruction that names neither an address nor a coprocessor
 abbrev pub exception : CoreState → ExceptionCode → Exception
 exception c code = record { code = code; pc = c.pc; slot = c.slot; unit = 0; addr = None; miss = false }
@@ -61,11 +54,6 @@ core_at_next c r = record c { registers = r; pc = c.next; next = word (c.next + 
 abbrev pub at_next : CoreState → BusState → Registers → Step
 at_next c b r = record { event = Retired; core = core_at_next c r; bus = b }
 
--- the registers after a branch, with the address after its slot in the one that links
-abbrev pub with_link : Option ℕ → ℕ → Registers → Registers
-with_link None pc r = settled r
-with_link (Some n) pc r = written r n (behind_slot pc)
-
 -- on into the slot, and after it at the target
 abbrev pub branched_core : CoreState → Registers → ℕ → CoreState
 branched_core c r target = record c { registers = r; pc = c.next; next = target; slot = true }
@@ -77,4 +65,4 @@ branched false c b r target = record { event = Branched; core = branched_core c 
 
 -- Random counted down, as once for each instruction that began
 abbrev pub with_tick : Step → Step
-with_tick s = record s { core = record s.core { random = ticked 64 8 s.core.random } }
+with_tick s = record s { core = record s.core { random = random_after 64 8 s.core.random } }

@@ -13,7 +13,7 @@ use Rattle.ds_amap.specs.declared.map.Fault.{Fault}
 use Rattle.ds_dev.specs.declared.fault.BusError.{BusError}
 use Rattle.ds_dev.specs.Bus.{BusState, lines}
 use Rattle.ds_core.specs.Core.{CoreState, Step, trapped, at_next, branched, with_tick}
-use Rattle.ds_core.specs.Access.{reached, refused, aligned_load, loaded_from, stored_to}
+use Rattle.ds_core.specs.Access.{reached, refused_step, aligned_load, loaded_from, stored_to}
 use Rattle.ds_core.specs.Coprocessor.{privileged}
 
 -- the cause of a fault of the instruction itself
@@ -41,13 +41,13 @@ fetch_answered c b (Ok w) = executed c b (instruction_of w)
 
 -- the instruction at the place that the address map gives, or the exception of its fetch
 abbrev pub fetched_from : CoreState → BusState → Result Physical Fault → Step
-fetched_from c b (Err fault) = refused c b Fetch c.pc fault
+fetched_from c b (Err fault) = refused_step c b Fetch c.pc fault
 fetched_from c b (Ok place) = (let r = aligned_load b place.0 Word in fetch_answered c r.1 r.0)
 
 -- the instruction at pc
-abbrev pub instruction : CoreState → BusState → Step
-instruction c b = fetched_from c b (reached c Fetch Word c.pc)
+abbrev pub instruction_step : CoreState → BusState → Step
+instruction_step c b = fetched_from c b (reached c Fetch Word c.pc)
 
 -- an interrupt, or the instruction at pc
 abbrev pub step : CoreState → BusState → Step
-step c b = if is_pending c.system (lines b).0 (lines b).1 then trapped c b Interrupt else with_tick (instruction c b)
+step c b = if is_pending c.system (lines b).0 (lines b).1 then trapped c b Interrupt else with_tick (instruction_step c b)

@@ -2,5 +2,5 @@ pub mod Core
 pub mod Access
 pub mod Coprocessor
 pub mod Effect
-pub mod Refilled
-pub mod Worked
+pub mod Inner
+pub mod Rows

@@ -3,8 +3,9 @@ ghost use Rattle.std.specs.Prelude.{◌≡◌, false};
 ghost use Rattle.ds_isa.specs.Instruction.{instruction_of};
 ghost use Rattle.ds_isa.specs.Registers.{read, written};
 ghost use Rattle.ds_dev.specs.Bus.{BusState};
-ghost use Rattle.ds_core.specs.Core.{CoreState, is_raised, at_next};
-ghost use Rattle.ds_core.specs.Coprocessor.{is_usable};
+ghost use Rattle.ds_core.specs.Core.{CoreState, at_next};
+ghost use Rattle.ds_core.specs.Inner.Core.{is_raised};
+ghost use Rattle.ds_core.specs.Coprocessor.{is_coprocessor_usable};
 ghost use Rattle.ds_core.specs.Effect.{executed, step};
 
 use crate::Core;
@@ -25,7 +26,7 @@ pub fn register_0_reads_0<L: Lookaside>(core: &Core<L>)
 #[tactic(auto, using(crate::proofs::Users::keeps_system))]
 pub fn a_user_keeps_the_coprocessor()
     ensures { (c : CoreState) (b : BusState)
-        → is_usable c 0 ≡ false → is_raised (step c b).event ≡ false
+        → is_coprocessor_usable c 0 ≡ false → is_raised (step c b).event ≡ false
         → (step c b).core.system ≡ c.system }
 {}
 
@@ -33,6 +34,6 @@ pub fn a_user_keeps_the_coprocessor()
 #[tactic(auto, using(crate::proofs::Users::keeps_entries))]
 pub fn a_user_keeps_the_entries()
     ensures { (c : CoreState) (b : BusState)
-        → is_usable c 0 ≡ false → is_raised (step c b).event ≡ false
+        → is_coprocessor_usable c 0 ≡ false → is_raised (step c b).event ≡ false
         → (step c b).core.entries ≡ c.entries }
 {}

@@ -1,3 +1,3 @@
 pub mod Codes
 pub mod System
-pub mod Worked
+pub mod Rows

@@ -2,7 +2,7 @@
 use Rattle.std.specs.Prelude.{ℕ, ◌+◌, ◌-◌, ◌*◌, ◌/◌, ◌%◌, ◌^◌, Bool, false, ◌&&◌, not, nat_lt, ◌==◌, if◌then◌else◌, Option, Some, None, bit_and}
 use Rattle.ds_word.specs.Word.{word, bits, bit}
 use Rattle.ds_cp0.specs.declared.exception.Exception.{Exception}
-use Rattle.ds_cp0.specs.Codes.{number_of, is_translation}
+use Rattle.ds_cp0.specs.Codes.{code_number, is_translation}
 
 -- each register as a word; Random, and the device bits of Cause, are not kept here
 pub record System : Type 0 where
@@ -49,10 +49,10 @@ with_address c e (Some a) =
     else record c { bad_vaddr = a }
 
 -- Cause after an exception: BD, CE, the software's requests, the code
-abbrev pub cause_of : ℕ → Exception → ℕ
-cause_of cause e =
-    let unit = if number_of e.code == 11 then e.unit % 4 else bits cause 28 2 in
-    bit 31 e.slot + unit * 2 ^ 28 + bits cause 8 2 * 2 ^ 8 + number_of e.code * 2 ^ 2
+abbrev pub cause_after : ℕ → Exception → ℕ
+cause_after cause e =
+    let unit = if code_number e.code == 11 then e.unit % 4 else bits cause 28 2 in
+    bit 31 e.slot + unit * 2 ^ 28 + bits cause 8 2 * 2 ^ 8 + code_number e.code * 2 ^ 2
 
 -- the place at which the program goes on later: in a slot its branch
 abbrev pub epc_of : Exception → ℕ
@@ -60,7 +60,7 @@ epc_of e = if e.slot then word (e.pc + (2 ^ 32 - 4)) else e.pc
 
 -- the registers after an exception
 abbrev pub entered : System → Exception → System
-entered c e = with_address (record c { status = pushed c.status; cause = cause_of c.cause e; epc = epc_of e }) e e.addr
+entered c e = with_address (record c { status = pushed c.status; cause = cause_after c.cause e; epc = epc_of e }) e e.addr
 
 -- the registers after a return from an exception
 abbrev pub returned : System → System

@@ -5,7 +5,7 @@ ghost use Rattle.ds_cp0.specs.System.{at_start, vector, with_address, entered, r
 use crate::exception::Exception;
 use crate::register;
 use crate::words::{
-    cause_of, epc_of, popped, pushed, vector, with_base, with_page, with_requests, with_vpn,
+    cause_after, epc_of, popped, pushed, vector, with_base, with_page, with_requests, with_vpn,
     writable_index, writable_status,
 };
 use ds_word::bit;
@@ -131,7 +131,7 @@ impl Cp0 {
         ensures vector { result ≡ vector exception }
     {
         self.status = pushed(self.status);
-        self.cause = cause_of(self.cause, &exception);
+        self.cause = cause_after(self.cause, &exception);
         self.epc = epc_of(&exception);
         if let Some(addr) = exception.addr {
             self.put_address(&exception, addr);

@@ -1,6 +1,6 @@
 //! What an exception is.
 ghost use Rattle.std.specs.Prelude.{◌≡◌};
-ghost use Rattle.ds_cp0.specs.Codes.{number_of, is_translation};
+ghost use Rattle.ds_cp0.specs.Codes.{code_number, is_translation};
 
 /// The cause of an exception, numbered as Cause shows it (Kane and Heinrich, chapter 5).
 #[derive(Clone, Copy, Debug, PartialEq, Eq)]
@@ -37,7 +37,7 @@ impl ExceptionCode {
     /// The number that Cause shows, 0 to 12.
     #[inline(always)]
     pub fn number(self) -> u8
-        ensures { result ≡ number_of self }
+        ensures { result ≡ code_number self }
     {
         self as u8
     }

@@ -1,7 +1,7 @@
 //! What exceptions and writes make of a register's word.
 ghost use Rattle.std.specs.Prelude.{◌≡◌, ◌+◌, ◌^◌, ◌<◌};
 ghost use Rattle.ds_word.specs.Word.{bits, bit};
-ghost use Rattle.ds_cp0.specs.System.{pushed, popped, with_field, cause_of, epc_of, vector, writable_index, writable_status};
+ghost use Rattle.ds_cp0.specs.System.{pushed, popped, with_field, cause_after, epc_of, vector, writable_index, writable_status};
 
 use crate::exception::{Exception, ExceptionCode};
 
@@ -74,8 +74,8 @@ pub(crate) fn with_requests(cause: u32, v: u32) -> u32
 
 /// Cause after an exception.
 #[inline(always)]
-pub(crate) fn cause_of(cause: u32, exception: &Exception) -> u32
-    ensures { result ≡ cause_of cause exception.now }
+pub(crate) fn cause_after(cause: u32, exception: &Exception) -> u32
+    ensures { result ≡ cause_after cause exception.now }
 {
     let unit = match exception.code {
         ExceptionCode::CoprocessorUnusable => u32::from(exception.unit % 4),

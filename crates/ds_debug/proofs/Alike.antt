@@ -19,14 +19,15 @@ use Rattle.ds_station.proofs.Headlines.{consoles_stand, time_stands}
 use Rattle.ds_station.proofs.Standings.{as_many, standing_stands, unended_stands}
 use Rattle.ds_station.specs.declared.outcome.Unended.{Unended}
 use Rattle.ds_debug.specs.Each.{each}
-use Rattle.ds_debug.specs.Answers.{answer_text, are_there, info_text, is_there, of_process, report_text}
+use Rattle.ds_debug.specs.Answers.{answer_text, are_there, info_text, is_there, of_process, run_report_text}
 use Rattle.ds_debug.specs.Answering.{plain_text}
 use Rattle.ds_debug.specs.Memory.{memory_text}
 use Rattle.ds_debug.specs.Outputs.{outputs_text}
 use Rattle.ds_debug.specs.Registers.{register_text, registers_text}
 use Rattle.ds_debug.specs.Reports.{is_runner, listed_process, process_line, thread_words, time_text}
 use Rattle.ds_debug.specs.Sessions.{SessionState, standing_by, told_first}
-use Rattle.ds_debug.specs.Sights.{Sight, sight_held, sight_in}
+use Rattle.ds_debug.specs.Sights.{Sight, sight_held}
+use Rattle.ds_debug.specs.Inner.Sights.{sight_in}
 use Rattle.ds_debug.specs.Stops.{stop_text}
 use Rattle.ds_debug.specs.Tables.{entries_text}
 use Rattle.ds_debug.specs.Threads.{threads_text}
@@ -134,7 +135,7 @@ module _ (v w : Sight) (a : IsAlike v w) where
       ∙ ap (process_line (i + 1) (w.standing (i + 1)) (w.registers (i + 1)).pc) (runner_alike (i + 1)))
 
   -- so is what monitor asks
-  report_alike : (n : ℕ) (asked : Report) → report_text n v asked ≡ report_text n w asked
+  report_alike : (n : ℕ) (asked : Report) → run_report_text n v asked ≡ run_report_text n w asked
   report_alike n report.Time =
       ap (λ (t : ℕ). time_text n (record v { time = t })) a.time ∙ ap (λ (u : Option Unended). time_text n (record v { time = w.time; unended = u })) a.unended
   report_alike n report.Processes = ap (each (listed_process v) 0) a.count ∙ each_alike (listed_process v) (listed_process w) listed_alike 0 w.count

@@ -15,7 +15,7 @@ use Rattle.ds_policy.specs.declared.grant.Right.TheVariants.{Nothing, Read, Writ
 use Rattle.ds_policy.specs.Pages.{Pages, Table, allowed_on, by_entry, by_right, bytes_of, entry_at, page_address}
 use Rattle.ds_policy.specs.Grants.{PageState}
 use Rattle.ds_station.specs.Reads.{word_on, word_read}
-use Rattle.ds_debug.specs.Memory.{before_others, byte_of, byte_on, byte_read, bytes_from}
+use Rattle.ds_debug.specs.Memory.{before_others, byte_of, byte_on, byte_read, bytes_readable_from}
 
 -- The address of the word.
 
@@ -95,45 +95,45 @@ byte_past s p a past = high_none s p a (nat_le (2 ^ 31) a) (grind (arith, nat_te
 one_left : (count i : ℕ) → i < count → count - i ≡ suc (count - (i + 1))
 one_left count i within = omega (arith, within)
 
-bytes_step : (s : PageState) (p a n : ℕ) → before_others (byte_read s p a) (bytes_from s p (a + 1) n) ≡ bytes_from s p a (suc n)
-unfolding bytes_from
+bytes_step : (s : PageState) (p a n : ℕ) → before_others (byte_read s p a) (bytes_readable_from s p (a + 1) n) ≡ bytes_readable_from s p a (suc n)
+unfolding bytes_readable_from
 bytes_step s p a n = refl
 
-bytes_none : (s : PageState) (p a : ℕ) → [] ≡ bytes_from s p a 0
-unfolding bytes_from
+bytes_none : (s : PageState) (p a : ℕ) → [] ≡ bytes_readable_from s p a 0
+unfolding bytes_readable_from
 bytes_none s p a = refl
 
 -- at first all of them are left
-pub bytes_start : (s : PageState) (p a count : ℕ) → bytes_from s p (a + 0) (count - 0) ≡ bytes_from s p a count
+pub bytes_start : (s : PageState) (p a count : ℕ) → bytes_readable_from s p (a + 0) (count - 0) ≡ bytes_readable_from s p a count
 bytes_start s p a count =
     let here : a + 0 ≡ a = omega arith in
     let all : count - 0 ≡ count = omega arith in
-    ap (λ (x : ℕ). bytes_from s p x (count - 0)) here ∙ ap (bytes_from s p a) all
+    ap (λ (x : ℕ). bytes_readable_from s p x (count - 0)) here ∙ ap (bytes_readable_from s p a) all
 
 -- what is left begins with the next
-left_first : (s : PageState) (p a i count : ℕ) (o : Option ℕ) → i < count → o ≡ byte_read s p (a + i) → bytes_from s p (a + i) (count - i) ≡ before_others o (bytes_from s p (a + (i + 1)) (count - (i + 1)))
+left_first : (s : PageState) (p a i count : ℕ) (o : Option ℕ) → i < count → o ≡ byte_read s p (a + i) → bytes_readable_from s p (a + i) (count - i) ≡ before_others o (bytes_readable_from s p (a + (i + 1)) (count - (i + 1)))
 left_first s p a i count o within is =
     let next : a + i + 1 ≡ a + (i + 1) = omega arith in
     let left : ℕ = count - (i + 1) in
-    ap (bytes_from s p (a + i)) (one_left count i within)
+    ap (bytes_readable_from s p (a + i)) (one_left count i within)
     ∙ (sym (bytes_step s p (a + i) left)
-    ∙ (ap (λ (x : Option ℕ). before_others x (bytes_from s p (a + i + 1) left)) (sym is)
-    ∙ ap (λ (x : ℕ). before_others o (bytes_from s p x left)) next))
+    ∙ (ap (λ (x : Option ℕ). before_others x (bytes_readable_from s p (a + i + 1) left)) (sym is)
+    ∙ ap (λ (x : ℕ). before_others o (bytes_readable_from s p x left)) next))
 
 -- with one more taken
-pub bytes_more : (s : PageState) (p a i count b : ℕ) (before all : List ℕ) → i < count → Some b ≡ byte_read s p (a + i) → before ++ bytes_from s p (a + i) (count - i) ≡ all
-    → (before ++ b ∷ []) ++ bytes_from s p (a + (i + 1)) (count - (i + 1)) ≡ all
+pub bytes_more : (s : PageState) (p a i count b : ℕ) (before all : List ℕ) → i < count → Some b ≡ byte_read s p (a + i) → before ++ bytes_readable_from s p (a + i) (count - i) ≡ all
+    → (before ++ b ∷ []) ++ bytes_readable_from s p (a + (i + 1)) (count - (i + 1)) ≡ all
 bytes_more s p a i count b before all within is left =
-    append_assoc before (b ∷ []) (bytes_from s p (a + (i + 1)) (count - (i + 1)))
+    append_assoc before (b ∷ []) (bytes_readable_from s p (a + (i + 1)) (count - (i + 1)))
     ∙ (ap (λ (x : List ℕ). before ++ x) (sym (left_first s p a i count (Some b) within is)) ∙ left)
 
 -- or none is there
-pub bytes_stop : (s : PageState) (p a i count : ℕ) (before all : List ℕ) → i < count → None ≡ byte_read s p (a + i) → before ++ bytes_from s p (a + i) (count - i) ≡ all → before ≡ all
+pub bytes_stop : (s : PageState) (p a i count : ℕ) (before all : List ℕ) → i < count → None ≡ byte_read s p (a + i) → before ++ bytes_readable_from s p (a + i) (count - i) ≡ all → before ≡ all
 bytes_stop s p a i count before all within is left =
     sym (append-nil before) ∙ (ap (λ (x : List ℕ). before ++ x) (sym (left_first s p a i count None within is)) ∙ left)
 
 -- or none is left
-pub bytes_end : (s : PageState) (p a i count : ℕ) (before all : List ℕ) → count ≤ i → before ++ bytes_from s p (a + i) (count - i) ≡ all → before ≡ all
+pub bytes_end : (s : PageState) (p a i count : ℕ) (before all : List ℕ) → count ≤ i → before ++ bytes_readable_from s p (a + i) (count - i) ≡ all → before ≡ all
 bytes_end s p a i count before all past left =
     let none : 0 ≡ count - i = omega (arith, past) in
-    sym (append-nil before) ∙ (ap (λ (x : List ℕ). before ++ x) (bytes_none s p (a + i)) ∙ (ap (λ (n : ℕ). before ++ bytes_from s p (a + i) n) none ∙ left))
+    sym (append-nil before) ∙ (ap (λ (x : List ℕ). before ++ x) (bytes_none s p (a + i)) ∙ (ap (λ (n : ℕ). before ++ bytes_readable_from s p (a + i) n) none ∙ left))

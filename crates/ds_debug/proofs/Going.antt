@@ -6,14 +6,15 @@ use Rattle.ds_pagemap.specs.Machine.{first}
 use Rattle.ds_pagemap.specs.Run.{is_over}
 use Rattle.ds_refinement.specs.Held.{Held}
 use Rattle.ds_refinement.specs.Real.{RealPath}
-use Rattle.ds_refinement.specs.Runs.{RunsWithin, held_goes_on}
+use Rattle.ds_refinement.specs.Runs.{held_goes_on}
+use Rattle.ds_refinement.specs.Inner.Runs.{RunsWithin}
 use Rattle.ds_refinement.proofs.RunSteps.{within_start}
 use Rattle.ds_station.proofs.InPieces.{no_steps}
 use Rattle.ds_debug.specs.Goals.{Goal, stop_after}
 use Rattle.ds_debug.specs.Watches.{all_seen}
 use Rattle.ds_debug.specs.declared.watches.Seen.{Seen}
 use Rattle.ds_debug.specs.Forward.{HasPassed, IsOnward, stop_between}
-use Rattle.ds_debug.specs.Answering.{is_back}
+use Rattle.ds_debug.specs.Inner.Answering.{is_back}
 use Rattle.ds_debug.specs.declared.goals.Stop.{Stop}
 use Rattle.ds_debug.specs.declared.session.Course.{Course}
 use Rattle.ds_debug.specs.declared.session.Course.TheVariants as course

@@ -2,7 +2,8 @@
 use Rattle.std.proofs.Common.{◌≡◌, ℕ, Bool, true, false, List, [], ◌∷◌, ◌++◌, Option, Result, append_assoc, append-nil, refl, sym, ap, subst, ◌∙◌}
 use Rattle.ds_packets.specs.Scanning.{came, scanned}
 use Rattle.ds_packets.specs.Scans.{Scan, Between}
-use Rattle.ds_packets.specs.Streams.{Piece, Splits, all_came, all_said, listed}
+use Rattle.ds_packets.specs.Streams.{all_came, as_list}
+use Rattle.ds_packets.specs.Inner.Streams.{Piece, Splits, all_said}
 use Rattle.ds_packets.proofs.Pieces.{came_pieces}
 use Rattle.ds_packets.specs.declared.scan.PacketFault.{PacketFault}
 use Rattle.ds_debug.specs.Streams.{ExchangeState, Hears, HearsAll, HearsBy, HearsLive, HearsOne, StreamState, scan_through}
@@ -11,8 +12,8 @@ use Rattle.ds_debug.specs.Streams.{ExchangeState, Hears, HearsAll, HearsBy, Hear
 pub came_both : (s : Scan) (xs ys : List ℕ) → all_came s (xs ++ ys) ≡ all_came s xs ++ all_came (scan_through s xs) ys
 came_both s [] ys = refl
 came_both s (x ∷ xs) ys =
-    ap (λ (rest : List (Result (List ℕ) PacketFault)). listed (came s x) ++ rest) (came_both (scanned s x) xs ys)
-    ∙ sym (append_assoc (listed (came s x)) (all_came (scanned s x) xs) (all_came (scan_through (scanned s x) xs) ys))
+    ap (λ (rest : List (Result (List ℕ) PacketFault)). as_list (came s x) ++ rest) (came_both (scanned s x) xs ys)
+    ∙ sym (append_assoc (as_list (came s x)) (all_came (scanned s x) xs) (all_came (scan_through (scanned s x) xs) ys))
 
 pub scan_both : (s : Scan) (xs ys : List ℕ) → scan_through s (xs ++ ys) ≡ scan_through (scan_through s xs) ys
 scan_both s [] ys = refl
@@ -52,13 +53,13 @@ chunks_join xs ys a b c before text after g h = record {
 }
 
 -- a byte with which something comes, or nothing does
-pub byte_heard : (s : Scan) (b : ℕ) (o : Option (Result (List ℕ) PacketFault)) (old new : ExchangeState) (before after : List ℕ) → o ≡ came s b → HearsAll (listed o) old new before after → HearsAll (all_came s (b ∷ [])) old new before after
+pub byte_heard : (s : Scan) (b : ℕ) (o : Option (Result (List ℕ) PacketFault)) (old new : ExchangeState) (before after : List ℕ) → o ≡ came s b → HearsAll (as_list o) old new before after → HearsAll (all_came s (b ∷ [])) old new before after
 byte_heard s b o old new before after is h =
-    subst (λ (items : List (Result (List ℕ) PacketFault)). HearsAll items old new before after) (sym (append-nil (listed (came s b)))) (subst (λ (p : Option (Result (List ℕ) PacketFault)). HearsAll (listed p) old new before after) is h)
+    subst (λ (items : List (Result (List ℕ) PacketFault)). HearsAll items old new before after) (sym (append-nil (as_list (came s b)))) (subst (λ (p : Option (Result (List ℕ) PacketFault)). HearsAll (as_list p) old new before after) is h)
 
 -- one byte more of a stream
 pub one_more : (bytes : List ℕ) (b : ℕ) (o : Option (Result (List ℕ) PacketFault)) (old last new : StreamState) (before text after : List ℕ) → Hears bytes old last before text → o ≡ came last.scan b → new.scan ≡ scanned last.scan b
-    → HearsAll (listed o) last.exchange new.exchange text after → Hears (bytes ++ b ∷ []) old new before after
+    → HearsAll (as_list o) last.exchange new.exchange text after → Hears (bytes ++ b ∷ []) old new before after
 one_more bytes b o old last new before text after g is scan h =
     chunks_join bytes (b ∷ []) old last new before text after g (record { scan = scan; heard = byte_heard last.scan b o last.exchange new.exchange text after is h })
 

@@ -6,9 +6,11 @@ use Rattle.ds_packets.specs.declared.packet.Packet.{Packet}
 use Rattle.ds_packets.specs.declared.packet.Refusal.{Refusal}
 use Rattle.ds_pagemap.specs.Machine.{State}
 use Rattle.ds_refinement.specs.Stands.{Stands}
-use Rattle.ds_debug.specs.Answering.{Answers, AnswersBy, AnswersWhere, TellsBy, TellsOf, TellsWhere, course_by}
+use Rattle.ds_debug.specs.Answering.{Answers, AnswersBy, AnswersWhere, course_by}
+use Rattle.ds_debug.specs.Inner.Answering.{TellsBy, TellsOf, TellsWhere}
 use Rattle.ds_debug.specs.Sessions.{SessionState}
-use Rattle.ds_debug.specs.Sights.{sight_held, sight_in}
+use Rattle.ds_debug.specs.Sights.{sight_held}
+use Rattle.ds_debug.specs.Inner.Sights.{sight_in}
 use Rattle.ds_debug.specs.declared.session.Course.{Course}
 use Rattle.ds_debug.specs.declared.session.Course.TheVariants as course
 use Rattle.ds_debug.proofs.Alike.{plain_alike, sight_alike}

@@ -8,19 +8,20 @@ use Rattle.ds_packets.specs.declared.packet.Who.{Who}
 use Rattle.ds_packets.specs.declared.packet.Who.TheVariants as who
 use Rattle.ds_refinement.specs.Held.{Held}
 use Rattle.ds_refinement.specs.Real.{RealPath}
-use Rattle.ds_refinement.specs.Runs.{RunsWithin}
+use Rattle.ds_refinement.specs.Inner.Runs.{RunsWithin}
 use Rattle.ds_refinement.proofs.Joined.{path_join}
 use Rattle.ds_refinement.proofs.RunSteps.{within_start}
 use Rattle.ds_station.proofs.InPieces.{to_within, within_join}
-use Rattle.ds_debug.specs.Backward.{ComesBack, FindsIn, ReturnsBy, back_process, back_reason, back_time, until_of}
+use Rattle.ds_debug.specs.Backward.{ComesBack, FindsIn, ReturnsBy, back_process, back_reason, back_time, looked_until}
 use Rattle.ds_debug.specs.Forward.{IsTurn}
 use Rattle.ds_debug.specs.Goals.{Goal, goal_with}
-use Rattle.ds_debug.specs.Inputs.{IsAt, IsReached, RunInputs}
+use Rattle.ds_debug.specs.Inputs.{IsAt, RunInputs}
+use Rattle.ds_debug.specs.Inner.Inputs.{IsReached}
 use Rattle.ds_debug.specs.Places.{Finds, HasFound, began_at, earlier, or_else, place_after}
 use Rattle.ds_debug.specs.Resumes.{asked_of, goal_of}
 use Rattle.ds_debug.specs.Sessions.{SessionState, named_or}
 use Rattle.ds_debug.specs.Stops.{stop_text}
-use Rattle.ds_debug.specs.Times.{asked_after, asked_place}
+use Rattle.ds_debug.specs.Times.{still_asked, asked_place}
 use Rattle.ds_debug.specs.Watches.{all_seen}
 use Rattle.ds_debug.specs.declared.goals.Breakpoint.{Breakpoint}
 use Rattle.ds_debug.specs.declared.watches.Watchpoint.{Watchpoint}
@@ -99,30 +100,30 @@ back_small (who.Process q) p going process = going
 
 -- a session with another station, then with another process, and then with what is still asked for
 pub moved : (old between stood new : SessionState) (p q time : ℕ) → between ≡ record old { held = between.held } → stood ≡ record between { process = p }
-    → new ≡ record stood { stop_at = asked_after stood.stop_at time stood.held.kept.state.time } → p ≡ q → time ≡ old.held.kept.state.time
+    → new ≡ record stood { stop_at = still_asked stood.stop_at time stood.held.kept.state.time } → p ≡ q → time ≡ old.held.kept.state.time
     → new ≡ record old { held = new.held; process = q; stop_at = asked_of old new.held }
 moved old between stood new p q time held process asked is at =
-    let whole : new ≡ record old { held = between.held; process = p; stop_at = asked_after old.stop_at time between.held.kept.state.time } =
+    let whole : new ≡ record old { held = between.held; process = p; stop_at = still_asked old.stop_at time between.held.kept.state.time } =
     asked
-    ∙ (ap (λ (s : SessionState). record s { stop_at = asked_after s.stop_at time s.held.kept.state.time }) process
-    ∙ ap (λ (s : SessionState). record s { process = p; stop_at = asked_after s.stop_at time s.held.kept.state.time }) held) in
+    ∙ (ap (λ (s : SessionState). record s { stop_at = still_asked s.stop_at time s.held.kept.state.time }) process
+    ∙ ap (λ (s : SessionState). record s { process = p; stop_at = still_asked s.stop_at time s.held.kept.state.time }) held) in
     let same : between.held ≡ new.held = sym (ap (λ (s : SessionState). s.held) whole) in
     whole
-    ∙ (ap (λ (h : Held). record old { held = h; process = p; stop_at = asked_after old.stop_at time h.kept.state.time }) same
-    ∙ (ap (λ (n : ℕ). record old { held = new.held; process = n; stop_at = asked_after old.stop_at time new.held.kept.state.time }) is
-    ∙ ap (λ (t : ℕ). record old { held = new.held; process = q; stop_at = asked_after old.stop_at t new.held.kept.state.time }) at))
+    ∙ (ap (λ (h : Held). record old { held = h; process = p; stop_at = still_asked old.stop_at time h.kept.state.time }) same
+    ∙ (ap (λ (n : ℕ). record old { held = new.held; process = n; stop_at = still_asked old.stop_at time new.held.kept.state.time }) is
+    ∙ ap (λ (t : ℕ). record old { held = new.held; process = q; stop_at = still_asked old.stop_at t new.held.kept.state.time }) at))
 
 -- its station is the other one
-pub moved_held : (between stood new : SessionState) (p time : ℕ) → stood ≡ record between { process = p } → new ≡ record stood { stop_at = asked_after stood.stop_at time stood.held.kept.state.time } → between.held ≡ new.held
+pub moved_held : (between stood new : SessionState) (p time : ℕ) → stood ≡ record between { process = p } → new ≡ record stood { stop_at = still_asked stood.stop_at time stood.held.kept.state.time } → between.held ≡ new.held
 moved_held between stood new p time process asked = sym (ap (λ (s : SessionState). s.held) asked ∙ ap (λ (s : SessionState). s.held) process)
 
 -- one that goes back by steps, each by what was found before
 pub returned : (s : Sought) (process : ℕ) (old between stood new : SessionState) (before after : List ℕ) (found place : Option Place) (time until p : ℕ) (to : Option ℕ) (reason : Reason)
-    → FindsIn old.inputs old.limit s (goal_of (Some Continue) [] old) (until_of old) found
+    → FindsIn old.inputs old.limit s (goal_of (Some Continue) [] old) (looked_until old) found
     → time ≡ old.held.kept.state.time → until ≡ earlier time old.limit → place ≡ asked_place s old.stop_at until process found
     → to ≡ back_time s place → ComesBack old.inputs old.limit old.held to between.held → between ≡ record old { held = between.held }
     → p ≡ back_process process place → stood ≡ record between { process = p }
-    → new ≡ record stood { stop_at = asked_after stood.stop_at time stood.held.kept.state.time }
+    → new ≡ record stood { stop_at = still_asked stood.stop_at time stood.held.kept.state.time }
     → reason ≡ back_reason s time place → after ≡ before ++ frame (stop_text new.process reason)
     → ReturnsBy s process old new before after
 returned s process old between stood new before after found place time until p to reason finds time_is until_is asked to_is comes held p_is stands rest reason_is told = record {

@@ -4,16 +4,17 @@ use Rattle.std.specs.Prelude.{Option, Result, Ok, Err}
 use Rattle.std.specs.Io.KnownBytes.{Appends, Consumes, Keeps}
 use Rattle.std.proofs.KnownBytes.{Consumes-nil, Consumes-trans, Consumes-kept}
 use Rattle.ds_log.specs.Sent.{AppendsPart}
-use Rattle.ds_log.proofs.Sends.{appends_both, appends_none, part_before, part_behind}
+use Rattle.ds_log.proofs.Sends.{appends_both, appends_none, part_before, part_after}
 use Rattle.ds_packets.specs.Packets.{packet_of}
 use Rattle.ds_packets.specs.Scanning.{came, scanned, start}
-use Rattle.ds_packets.specs.Streams.{all_came, listed}
+use Rattle.ds_packets.specs.Streams.{all_came, as_list}
 use Rattle.ds_packets.specs.declared.packet.Packet.{Packet}
 use Rattle.ds_packets.specs.declared.packet.Refusal.{Refusal}
 use Rattle.ds_packets.specs.declared.scan.PacketFault.{PacketFault}
 use Rattle.ds_station.specs.declared.fault.Fault.{Fault}
 use Rattle.ds_debug.specs.Answering.{AnswersBy, AnswersWhere, course_by}
-use Rattle.ds_debug.specs.Serving.{DebugEndsBy, Debugs, EndsSo, IsCutAt, IsCutIn, IsLate, Pipes, ServedPart, Serves, ServesPart, WritesFront, WritesSo, pipes, stream_at}
+use Rattle.ds_debug.specs.Serving.{Debugs, EndsSo, IsLate, Pipes, ServedPart, Serves, ServesPart, WritesSo, pipes, stream_at}
+use Rattle.ds_debug.specs.Inner.Serving.{DebugEndsBy, IsCutAt, IsCutIn, WritesFront}
 use Rattle.ds_debug.specs.Inputs.{IsBeginning, RunInputs}
 use Rattle.ds_debug.specs.Sessions.{SessionState, begun}
 use Rattle.ds_debug.specs.Streams.{AnswersWords, ExchangeState, Hears, HearsAll, HearsBy, HearsLive, HearsWords, StreamState, mark_text}
@@ -24,54 +25,54 @@ use Rattle.ds_debug.proofs.Hearing.{byte_heard, chunks_join, ended_hears, live_h
 
 -- What is answered does not depend on what was written before.
 
-told_behind : (p before text after : List ℕ) → after ≡ before ++ text → p ++ after ≡ (p ++ before) ++ text
-told_behind p before text after is = ap (λ (x : List ℕ). p ++ x) is ∙ sym (append_assoc p before text)
+told_after : (p before text after : List ℕ) → after ≡ before ++ text → p ++ after ≡ (p ++ before) ++ text
+told_after p before text after is = ap (λ (x : List ℕ). p ++ x) is ∙ sym (append_assoc p before text)
 
 module _ (p : List ℕ) where
-  where_behind : (by : Course) (words : List ℕ) (packet : Packet) (old new : SessionState) (before after : List ℕ) → AnswersWhere by words packet old new before after → AnswersWhere by words packet old new (p ++ before) (p ++ after)
-  where_behind course.Nowhere words packet old new before after t = record { now = t.now; told = told_behind p before _ after t.told }
-  where_behind (course.Forward action) words packet old new before after r = record { stop = r.stop; goes = r.goes; rest = r.rest; told = told_behind p before _ after r.told }
-  where_behind (course.Backward action) words packet old new before after r =
-      record { found = r.found; finds = r.finds; place = r.place; asked = r.asked; comes = r.comes; rest = r.rest; told = told_behind p before _ after r.told }
+  where_after : (by : Course) (words : List ℕ) (packet : Packet) (old new : SessionState) (before after : List ℕ) → AnswersWhere by words packet old new before after → AnswersWhere by words packet old new (p ++ before) (p ++ after)
+  where_after course.Nowhere words packet old new before after t = record { now = t.now; told = told_after p before _ after t.told }
+  where_after (course.Forward action) words packet old new before after r = record { stop = r.stop; goes = r.goes; rest = r.rest; told = told_after p before _ after r.told }
+  where_after (course.Backward action) words packet old new before after r =
+      record { found = r.found; finds = r.finds; place = r.place; asked = r.asked; comes = r.comes; rest = r.rest; told = told_after p before _ after r.told }
 
-  by_behind : (words : List ℕ) (r : Result Packet Refusal) (old new : SessionState) (before after : List ℕ) → AnswersBy words r old new before after → AnswersBy words r old new (p ++ before) (p ++ after)
-  by_behind words (Ok packet) old new before after t = where_behind (course_by packet) words packet old new before after t
-  by_behind words (Err refusal) old new before after t = record { now = t.now; told = told_behind p before _ after t.told }
+  by_after : (words : List ℕ) (r : Result Packet Refusal) (old new : SessionState) (before after : List ℕ) → AnswersBy words r old new before after → AnswersBy words r old new (p ++ before) (p ++ after)
+  by_after words (Ok packet) old new before after t = where_after (course_by packet) words packet old new before after t
+  by_after words (Err refusal) old new before after t = record { now = t.now; told = told_after p before _ after t.told }
 
-  pub words_behind : (words : List ℕ) (old new : ExchangeState) (before after : List ℕ) → AnswersWords words old new before after → AnswersWords words old new (p ++ before) (p ++ after)
-  words_behind words old new before after a = record { answers = by_behind words (packet_of words) old.session new.session before after a.answers; rest = a.rest }
+  pub words_after : (words : List ℕ) (old new : ExchangeState) (before after : List ℕ) → AnswersWords words old new before after → AnswersWords words old new (p ++ before) (p ++ after)
+  words_after words old new before after a = record { answers = by_after words (packet_of words) old.session new.session before after a.answers; rest = a.rest }
 
-  live_behind : (item : Result (List ℕ) PacketFault) (old new : ExchangeState) (before after : List ℕ) → HearsLive item old new before after → HearsLive item old new (p ++ before) (p ++ after)
-  live_behind (Ok words) old new before after h =
+  live_past : (item : Result (List ℕ) PacketFault) (old new : ExchangeState) (before after : List ℕ) → HearsLive item old new before after → HearsLive item old new (p ++ before) (p ++ after)
+  live_past (Ok words) old new before after h =
       let mark : List ℕ = mark_text old.acknowledges 43 in
-      subst (λ (x : List ℕ). AnswersWords words old new x (p ++ after)) (sym (append_assoc p before mark)) (words_behind words old new (before ++ mark) after h)
-  live_behind (Err fault) old new before after m = record { same = m.same; told = told_behind p before _ after m.told }
+      subst (λ (x : List ℕ). AnswersWords words old new x (p ++ after)) (sym (append_assoc p before mark)) (words_after words old new (before ++ mark) after h)
+  live_past (Err fault) old new before after m = record { same = m.same; told = told_after p before _ after m.told }
 
-  heard_behind : (ended : Bool) (item : Result (List ℕ) PacketFault) (old new : ExchangeState) (before after : List ℕ) → HearsBy ended item old new before after → HearsBy ended item old new (p ++ before) (p ++ after)
-  heard_behind true item old new before after m = record { same = m.same; told = told_behind p before _ after m.told }
-  heard_behind false item old new before after h = live_behind item old new before after h
+  heard_after : (ended : Bool) (item : Result (List ℕ) PacketFault) (old new : ExchangeState) (before after : List ℕ) → HearsBy ended item old new before after → HearsBy ended item old new (p ++ before) (p ++ after)
+  heard_after true item old new before after m = record { same = m.same; told = told_after p before _ after m.told }
+  heard_after false item old new before after h = live_past item old new before after h
 
-  all_behind : (items : List (Result (List ℕ) PacketFault)) (old new : ExchangeState) (before after : List ℕ) → HearsAll items old new before after → HearsAll items old new (p ++ before) (p ++ after)
-  all_behind [] old new before after m = record { same = m.same; told = told_behind p before _ after m.told }
-  all_behind (item ∷ items) old new before after g =
-      (g.0, p ++ g.1, heard_behind old.ended item old g.0 before g.1 g.2, all_behind items g.0 new g.1 after g.3)
+  all_past : (items : List (Result (List ℕ) PacketFault)) (old new : ExchangeState) (before after : List ℕ) → HearsAll items old new before after → HearsAll items old new (p ++ before) (p ++ after)
+  all_past [] old new before after m = record { same = m.same; told = told_after p before _ after m.told }
+  all_past (item ∷ items) old new before after g =
+      (g.0, p ++ g.1, heard_after old.ended item old g.0 before g.1 g.2, all_past items g.0 new g.1 after g.3)
 
   -- so of a stream, after nothing
-  pub hears_behind : (bytes : List ℕ) (old new : StreamState) (text : List ℕ) → Hears bytes old new [] text → Hears bytes old new p (p ++ text)
-  hears_behind bytes old new text h =
+  pub hears_past : (bytes : List ℕ) (old new : StreamState) (text : List ℕ) → Hears bytes old new [] text → Hears bytes old new p (p ++ text)
+  hears_past bytes old new text h =
       let items : List (Result (List ℕ) PacketFault) = all_came old.scan bytes in
       record {
         scan = h.scan;
-        heard = subst (λ (x : List ℕ). HearsAll items old.exchange new.exchange x (p ++ text)) (append-nil p) (all_behind items old.exchange new.exchange [] text h.heard);
+        heard = subst (λ (x : List ℕ). HearsAll items old.exchange new.exchange x (p ++ text)) (append-nil p) (all_past items old.exchange new.exchange [] text h.heard);
       }
 
 -- bytes, and then more
 hears_both : (xs ys : List ℕ) (a b c : StreamState) (s t : List ℕ) → Hears xs a b [] s → Hears ys b c [] t → Hears (xs ++ ys) a c [] (s ++ t)
-hears_both xs ys a b c s t g h = chunks_join xs ys a b c [] s (s ++ t) g (hears_behind s ys b c t h)
+hears_both xs ys a b c s t g h = chunks_join xs ys a b c [] s (s ++ t) g (hears_past s ys b c t h)
 
 -- one byte, with which something comes or nothing
 hears_one : (b : ℕ) (o : Option (Result (List ℕ) PacketFault)) (old new : StreamState) (text : List ℕ) → o ≡ came old.scan b → new.scan ≡ scanned old.scan b
-    → HearsAll (listed o) old.exchange new.exchange [] text → Hears (b ∷ []) old new [] text
+    → HearsAll (as_list o) old.exchange new.exchange [] text → Hears (b ∷ []) old new [] text
 hears_one b o old new text is scan h = record { scan = scan; heard = byte_heard old.scan b o old.exchange new.exchange [] text is h }
 
 -- What is written.
@@ -83,7 +84,7 @@ words_written words old new w0 w1 w2 text marked answers written =
     let mark : List ℕ = mark_text old.acknowledges 43 in
     record {
       text = mark ++ text;
-      so = subst (λ (x : List ℕ). AnswersWords words old new x (mark ++ text)) (append-nil mark) (words_behind mark words old new [] text answers);
+      so = subst (λ (x : List ℕ). AnswersWords words old new x (mark ++ text)) (append-nil mark) (words_after mark words old new [] text answers);
       written = appends_both w0 w1 w2 mark text marked written;
     }
 
@@ -99,8 +100,8 @@ words_cut words old new w0 w1 w2 text marked answers written =
       new,
       record {
         text = mark ++ text;
-        so = subst (λ (x : List ℕ). AnswersWords words old new x (mark ++ text)) (append-nil mark) (words_behind mark words old new [] text answers);
-        written = part_behind w0 w1 w2 mark text marked written;
+        so = subst (λ (x : List ℕ). AnswersWords words old new x (mark ++ text)) (append-nil mark) (words_after mark words old new [] text answers);
+        written = part_after w0 w1 w2 mark text marked written;
       },
     )
 
@@ -137,7 +138,7 @@ stream_begins s w = record { text = []; so = record { scan = refl; heard = nothi
 module _ (bytes : List ℕ) (b : ℕ) (o : Option (Result (List ℕ) PacketFault)) (old last : StreamState) (w0 w1 w2 : Option (List ℕ)) where
   -- one byte more
   pub stream_goes_on : (new : StreamState) → WritesSo (Hears bytes old last []) w0 w1 → o ≡ came last.scan b → new.scan ≡ scanned last.scan b
-      → WritesSo (HearsAll (listed o) last.exchange new.exchange []) w1 w2 → WritesSo (Hears (bytes ++ b ∷ []) old new []) w0 w2
+      → WritesSo (HearsAll (as_list o) last.exchange new.exchange []) w1 w2 → WritesSo (Hears (bytes ++ b ∷ []) old new []) w0 w2
   stream_goes_on new g is scan h = record {
     text = g.text ++ h.text;
     so = hears_both bytes (b ∷ []) old last new g.text h.text g.so (hears_one b o last new h.text is scan h.so);
@@ -145,7 +146,7 @@ module _ (bytes : List ℕ) (b : ℕ) (o : Option (Result (List ℕ) PacketFault
   }
 
   -- or it is not answered whole
-  pub stream_is_cut : (rest all : List ℕ) → bytes ++ b ∷ rest ≡ all → WritesSo (Hears bytes old last []) w0 w1 → o ≡ came last.scan b → IsCutIn (listed o) last.exchange w1 w2 → ServedPart all old w0 w2
+  pub stream_is_cut : (rest all : List ℕ) → bytes ++ b ∷ rest ≡ all → WritesSo (Hears bytes old last []) w0 w1 → o ≡ came last.scan b → IsCutIn (as_list o) last.exchange w1 w2 → ServedPart all old w0 w2
   stream_is_cut rest all whole g is (inl m) = record {
     some = bytes;
     rest = b ∷ rest;
@@ -153,7 +154,7 @@ module _ (bytes : List ℕ) (b : ℕ) (o : Option (Result (List ℕ) PacketFault
     last = last;
     text = g.text;
     hears = g.so;
-    written = part_behind w0 w1 w2 g.text (mark_text last.exchange.acknowledges 43) g.written m;
+    written = part_after w0 w1 w2 g.text (mark_text last.exchange.acknowledges 43) g.written m;
   }
   stream_is_cut rest all whole g is (inr f) =
       let new : StreamState = record { scan = scanned last.scan b; exchange = f.0 } in
@@ -164,7 +165,7 @@ module _ (bytes : List ℕ) (b : ℕ) (o : Option (Result (List ℕ) PacketFault
         last = new;
         text = g.text ++ f.1.text;
         hears = hears_both bytes (b ∷ []) old last new g.text f.1.text g.so (hears_one b o last new f.1.text is refl f.1.so);
-        written = part_before w0 w2 (g.text ++ f.1.text) (mark_text f.0.acknowledges 43) (part_behind w0 w1 w2 g.text f.1.text g.written f.1.written);
+        written = part_before w0 w2 (g.text ++ f.1.text) (mark_text f.0.acknowledges 43) (part_after w0 w1 w2 g.text f.1.text g.written f.1.written);
       }
 
 -- What is read.
@@ -200,7 +201,7 @@ module _ (a b : StreamState) (r0 r1 r2 w0 w1 w2 : Option (List ℕ)) where
       hears = hears_both g.bytes h.part.some a b h.part.last g.heard.text h.part.text g.heard.so h.part.hears;
       written =
           let mark : List ℕ = mark_text h.part.last.exchange.acknowledges 43 in
-          subst (AppendsPart w0 w2) (sym (append_assoc g.heard.text h.part.text mark)) (part_behind w0 w1 w2 g.heard.text (h.part.text ++ mark) g.heard.written h.part.written);
+          subst (AppendsPart w0 w2) (sym (append_assoc g.heard.text h.part.text mark)) (part_after w0 w1 w2 g.heard.text (h.part.text ++ mark) g.heard.written h.part.written);
     };
   }
 

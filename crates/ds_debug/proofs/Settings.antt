@@ -11,7 +11,7 @@ use Rattle.ds_station.specs.declared.outcome.Unended.{Unended}
 use Rattle.ds_debug.specs.Answers.{are_there, is_there}
 use Rattle.ds_debug.specs.Sights.{sight_held}
 use Rattle.ds_packets.specs.declared.packet.Packet.TheVariants.{Unbreak, Unwatch}
-use Rattle.ds_debug.specs.Sessions.{SessionState, after_setting, is_same_watch, named_or, watch_of, without, without_one}
+use Rattle.ds_debug.specs.Sessions.{SessionState, after_setting, is_same_watch, named_or, watch_of, without_breakpoint, without_one}
 use Rattle.ds_debug.specs.declared.goals.Breakpoint.{Breakpoint}
 use Rattle.ds_debug.specs.declared.watches.Watchpoint.{Watchpoint}
 
@@ -42,7 +42,7 @@ unended_small m u is few = let within = unended_within m 1 (length m.processes) 
 -- a breakpoint that is not there is not taken away
 pub unbreak_none : (s : SessionState) (a : ℕ) (o : Option ℕ) → o ≡ position (λ b. (b.process == s.process) && (b.address == a)) s.breakpoints → o ≡ None → s ≡ after_setting s (Unbreak a)
 unbreak_none s a o is none =
-    ap (λ (bs : List Breakpoint). record s { breakpoints = bs }) (ap (λ (x : Option ℕ). without x s.breakpoints) (sym none ∙ is))
+    ap (λ (bs : List Breakpoint). record s { breakpoints = bs }) (ap (λ (x : Option ℕ). without_breakpoint x s.breakpoints) (sym none ∙ is))
 
 -- nor is a watch
 pub unwatch_none : (s : SessionState) (a l : ℕ) (o : Option ℕ) → o ≡ position (is_same_watch (watch_of s a l)) s.watchpoints → o ≡ None → s ≡ after_setting s (Unwatch a l)

@@ -10,7 +10,8 @@ use Rattle.ds_refinement.proofs.Tallied.{unbegun_of}
 use Rattle.ds_station.specs.Reads.{address_held, general_held, hi_held, lo_held, unit_on}
 use Rattle.ds_station.proofs.Showing.{first_is, seated_by}
 use Rattle.ds_station.proofs.Standings.{running_here}
-use Rattle.ds_debug.specs.Registers.{registers_held, registers_in}
+use Rattle.ds_debug.specs.Registers.{registers_held}
+use Rattle.ds_debug.specs.Inner.Registers.{registers_in}
 use Rattle.ds_debug.specs.declared.registers.Registers.{Registers}
 
 -- the registers of a process

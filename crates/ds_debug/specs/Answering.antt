@@ -1,25 +1,24 @@
 -- What a session answers to the data of a packet.
-use Rattle.std.specs.Prelude.{◌≡◌, ⊤, codes, ℕ, Bool, true, false, List, [], ◌++◌, Some, None, Result, Ok, Err}
+use Rattle.std.specs.Prelude.{◌≡◌, codes, ℕ, List, [], ◌++◌, Some, None, Result, Ok, Err}
 use Rattle.ds_packets.specs.Framing.{frame}
 use Rattle.ds_packets.specs.Packets.{packet_of}
 use Rattle.ds_packets.specs.declared.packet.Packet.{Packet}
 use Rattle.ds_packets.specs.declared.packet.Packet.TheVariants.{NoAcknowledgements, Why, Monitor, StopAt, Look, Go, Break, Unbreak, Watch, Unwatch, Resume, Forward, Backward, End}
 use Rattle.ds_packets.specs.declared.packet.Refusal.{Refusal}
 use Rattle.ds_packets.specs.declared.packet.Refusal.TheVariants.{Unknown, Malformed}
-use Rattle.ds_pagemap.specs.Machine.{State}
-use Rattle.ds_debug.specs.Answers.{answer_text, report_text}
+use Rattle.ds_debug.specs.Answers.{answer_text, run_report_text}
 use Rattle.ds_debug.specs.Backward.{Returns}
 use Rattle.ds_debug.specs.Outputs.{outputs_text}
 use Rattle.ds_debug.specs.Resumes.{Resumes}
 use Rattle.ds_debug.specs.Sessions.{SessionState, after_setting, setting_text, sight_of, told_first}
-use Rattle.ds_debug.specs.Sights.{Sight, sight_in}
+use Rattle.ds_debug.specs.Sights.{Sight}
 use Rattle.ds_debug.specs.Stops.{stop_text}
 use Rattle.ds_debug.specs.declared.session.Course.{Course}
 use Rattle.ds_debug.specs.declared.session.Course.TheVariants as course
 use Rattle.ds_debug.specs.declared.stops.Reason.TheVariants.{Rest}
 
 -- the session is now that, and this was answered
-pub record Tells (state : SessionState) (text : List ℕ) (new : SessionState) (before after : List ℕ) : Type 0 where
+pub record AnswersText (state : SessionState) (text : List ℕ) (new : SessionState) (before after : List ℕ) : Type 0 where
   pub now : new ≡ state
   pub told : after ≡ before ++ text
 
@@ -38,7 +37,7 @@ after_plain s other = s
 -- and what is answered, where this is seen
 abbrev pub plain_text : Sight → SessionState → Packet → List ℕ
 plain_text v s Why = frame (stop_text (told_first v s.process) Rest)
-plain_text v s (Monitor report) = outputs_text (report_text s.limit v report) ++ frame (codes "OK")
+plain_text v s (Monitor report) = outputs_text (run_report_text s.limit v report) ++ frame (codes "OK")
 plain_text v s NoAcknowledgements = frame (codes "OK")
 plain_text v s (StopAt t) = frame (setting_text v s (StopAt t))
 plain_text v s (Look w) = frame (setting_text v s (Look w))
@@ -57,15 +56,9 @@ course_by (Forward action) = course.Forward (Some action)
 course_by (Backward action) = course.Backward action
 course_by other = course.Nowhere
 
--- that is back
-abbrev pub is_back : Course → Bool
-is_back course.Nowhere = false
-is_back (course.Forward action) = false
-is_back (course.Backward action) = true
-
 -- by where it lets it go
 abbrev pub AnswersWhere : Course → List ℕ → Packet → SessionState → SessionState → List ℕ → List ℕ → Type 0
-AnswersWhere course.Nowhere words packet s = Tells (after_plain s packet) (plain_text (sight_of s) s packet)
+AnswersWhere course.Nowhere words packet s = AnswersText (after_plain s packet) (plain_text (sight_of s) s packet)
 AnswersWhere (course.Forward action) words packet s = Resumes action words s
 AnswersWhere (course.Backward action) words packet s = Returns action s
 
@@ -74,39 +67,15 @@ abbrev pub AnswersPacket : List ℕ → Packet → SessionState → SessionState
 AnswersPacket words packet = AnswersWhere (course_by packet) words packet
 
 -- the error of a packet that is not known, which is empty, or malformed
-abbrev pub refusal_text : Refusal → List ℕ
-refusal_text Unknown = []
-refusal_text Malformed = codes "E16"
+abbrev pub packet_error_text : Refusal → List ℕ
+packet_error_text Unknown = []
+packet_error_text Malformed = codes "E16"
 
 -- by what the words say
 abbrev pub AnswersBy : List ℕ → Result Packet Refusal → SessionState → SessionState → List ℕ → List ℕ → Type 0
 AnswersBy words (Ok packet) s = AnswersPacket words packet s
-AnswersBy words (Err refusal) s = Tells s (frame (refusal_text refusal))
+AnswersBy words (Err refusal) s = AnswersText s (frame (packet_error_text refusal))
 
 -- the session answers the data of a packet
 abbrev pub Answers : List ℕ → SessionState → SessionState → List ℕ → List ℕ → Type 0
 Answers words = AnswersBy words (packet_of words)
-
--- what the words say lets a session go back
-abbrev pub goes_back_by : Result Packet Refusal → Bool
-goes_back_by (Err refusal) = false
-goes_back_by (Ok packet) = is_back (course_by packet)
-
--- the data of a packet do
-abbrev pub goes_back : List ℕ → Bool
-goes_back words = goes_back_by (packet_of words)
-
--- what is answered to a packet that lets a session go nowhere, where this is seen
-abbrev pub TellsWhere : Course → Sight → SessionState → Packet → List ℕ → List ℕ → Type 0
-TellsWhere course.Nowhere v s packet before after = after ≡ before ++ plain_text v s packet
-TellsWhere (course.Forward action) v s packet before after = ⊤
-TellsWhere (course.Backward action) v s packet before after = ⊤
-
--- by what the words say
-abbrev pub TellsBy : Result Packet Refusal → Sight → SessionState → List ℕ → List ℕ → Type 0
-TellsBy (Err refusal) v s before after = ⊤
-TellsBy (Ok packet) v s before after = TellsWhere (course_by packet) v s packet before after
-
--- the answer to the data of a packet that lets a session go nowhere is told of a machine state
-abbrev pub TellsOf : List ℕ → State → SessionState → List ℕ → List ℕ → Type 0
-TellsOf words m = TellsBy (packet_of words) (sight_in m)

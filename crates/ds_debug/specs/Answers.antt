@@ -7,7 +7,7 @@ use Rattle.ds_packets.specs.declared.packet.Report.{Report}
 use Rattle.ds_packets.specs.declared.packet.Report.TheVariants as report
 use Rattle.ds_packets.specs.declared.packet.Who.{Who}
 use Rattle.ds_packets.specs.declared.packet.Who.TheVariants as who
-use Rattle.ds_debug.specs.Description.{description_text, part_text}
+use Rattle.ds_debug.specs.Description.{description_text, text_part}
 use Rattle.ds_debug.specs.Memory.{memory_text}
 use Rattle.ds_debug.specs.Registers.{register_text, registers_text}
 use Rattle.ds_debug.specs.Reports.{is_runner, processes_text, thread_words, time_text}
@@ -58,7 +58,7 @@ seen_text s p other = []
 -- what is answered where this process is looked at; nothing where the packet is not known
 abbrev pub answer_text : Sight → ℕ → Packet → List ℕ
 answer_text s p (Supported multiple) = features_text multiple
-answer_text s p (Description offset size) = part_text description_text offset size
+answer_text s p (Description offset size) = text_part description_text offset size
 answer_text s p FirstThreads = threads_text s.count
 answer_text s p MoreThreads = codes "l"
 answer_text s p (ThreadInfo w) = info_text s w
@@ -78,9 +78,9 @@ abbrev pub console_text : Sight → ℕ → List ℕ
 console_text s l = if nat_lt l 4 then slice_index_or s.consoles l [] else []
 
 -- what is told of a run for n
-abbrev pub report_text : ℕ → Sight → Report → List ℕ
-report_text n s report.Time = time_text n s
-report_text n s report.Processes = processes_text s
-report_text n s report.Log = s.log
-report_text n s (report.Console l) = console_text s l
-report_text n s report.Table = table_text s
+abbrev pub run_report_text : ℕ → Sight → Report → List ℕ
+run_report_text n s report.Time = time_text n s
+run_report_text n s report.Processes = processes_text s
+run_report_text n s report.Log = s.log
+run_report_text n s (report.Console l) = console_text s l
+run_report_text n s report.Table = table_text s

@@ -18,12 +18,12 @@ use Rattle.ds_debug.specs.declared.stops.Reason.{Reason}
 use Rattle.ds_debug.specs.declared.stops.Reason.TheVariants.{Begin, Signal}
 
 -- the process that goes back: the one that is named to go, or else the one that is looked at
-abbrev pub back_of : SessionState → ℕ
-back_of s = named_or s.going s.process
+abbrev pub process_going_back : SessionState → ℕ
+process_going_back s = named_or s.going s.process
 
 -- up to when a run is looked through: to the time of the session, or to the end of the run
-abbrev pub until_of : SessionState → ℕ
-until_of s = earlier s.held.kept.state.time s.limit
+abbrev pub looked_until : SessionState → ℕ
+looked_until s = earlier s.held.kept.state.time s.limit
 
 -- to which time it goes back: without a place, to the beginning where the last stop was sought; a process without a turn stays
 abbrev pub back_time : Sought → Option Place → Option ℕ
@@ -61,13 +61,13 @@ ComesBack i n old (Some time) new = IsAt i n time new
 -- the session goes back to the last place before its own that is found in a run of its inputs, or to a time that is asked for, and tells where it came; without a place, of this process
 pub record ReturnsBy (s : Sought) (process : ℕ) (old new : SessionState) (before after : List ℕ) : Type 0 where
   pub found : Option Place
-  pub finds : FindsIn old.inputs old.limit s (goal_of (Some Continue) [] old) (until_of old) found
+  pub finds : FindsIn old.inputs old.limit s (goal_of (Some Continue) [] old) (looked_until old) found
   pub place : Option Place
-  pub asked : place ≡ asked_place s old.stop_at (until_of old) process found
+  pub asked : place ≡ asked_place s old.stop_at (looked_until old) process found
   pub comes : ComesBack old.inputs old.limit old.held (back_time s place) new.held
   pub rest : new ≡ record old { held = new.held; process = back_process process place; stop_at = asked_of old new.held }
   pub told : after ≡ before ++ frame (stop_text new.process (back_reason s old.held.kept.state.time place))
 
 -- by an action
 abbrev pub Returns : Action → SessionState → SessionState → List ℕ → List ℕ → Type 0
-Returns action old = ReturnsBy (sought_by action (back_of old)) (back_of old) old
+Returns action old = ReturnsBy (sought_by action (process_going_back old)) (process_going_back old) old

@@ -1,10 +1,10 @@
 -- What a line of the log tells of a denial, as a signal.
 use Rattle.std.specs.Prelude.{codes, bytes_eq, ℕ, ◌||◌, if◌then◌else◌, List, Option, Some, None}
-use Rattle.ds_packets.specs.Words.{after, before}
+use Rattle.ds_packets.specs.Words.{after_mark, before}
 
 -- what comes after three words
 abbrev pub after_three : List ℕ → List ℕ
-after_three line = after 32 (after 32 (after 32 line))
+after_three line = after_mark 32 (after_mark 32 (after_mark 32 line))
 
 -- the seventh word of a line: of a denial the code of its exception; the line of a refused command has five
 abbrev pub seventh_word : List ℕ → List ℕ

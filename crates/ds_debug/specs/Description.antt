@@ -52,9 +52,9 @@ unfoldable pub description_text : List ℕ
 description_text = head_text ++ processor_text ++ system_text ++ floating_text ++ codes "</target>"
 
 -- what is left of a text, or so much of it where there is more
-abbrev pub left_text : List ℕ → ℕ → List ℕ
-left_text left size = if nat_le (length left) size then codes "l" ++ left else codes "m" ++ take size left
+abbrev pub rest_text : List ℕ → ℕ → List ℕ
+rest_text left size = if nat_le (length left) size then codes "l" ++ left else codes "m" ++ take size left
 
 -- a part of a text, from a place on, of at most so many bytes
-abbrev pub part_text : List ℕ → ℕ → ℕ → List ℕ
-part_text text offset size = left_text (drop offset text) size
+abbrev pub text_part : List ℕ → ℕ → ℕ → List ℕ
+text_part text offset size = rest_text (drop offset text) size

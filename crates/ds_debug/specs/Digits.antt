@@ -4,8 +4,8 @@ use Rattle.ds_word.specs.Bytes.{bytes_of_word}
 use Rattle.ds_packets.specs.Framing.{hex_digit, hex_pair, hex_text}
 
 -- a word, its lowest byte first
-abbrev pub word_text : ℕ → List ℕ
-word_text w = hex_text (bytes_of_word w)
+abbrev pub low_first_text : ℕ → List ℕ
+low_first_text w = hex_text (bytes_of_word w)
 
 -- a number below 256, with no zero before it
 abbrev pub number_text : ℕ → List ℕ

@@ -4,9 +4,6 @@ use Rattle.ds_pagemap.specs.Machine.{first}
 use Rattle.ds_refinement.specs.Held.{Held}
 use Rattle.ds_refinement.specs.Real.{RealPath}
 use Rattle.ds_refinement.specs.Runs.{RunsTo, held_goes_on}
-use Rattle.ds_station.specs.Runs.{IsCut}
-use Rattle.ds_station.specs.declared.fault.Fault.{Fault}
-use Rattle.ds_station.specs.declared.fault.Fault.TheVariants.{Memory}
 use Rattle.ds_debug.specs.Exits.{exits_next}
 use Rattle.ds_debug.specs.Goals.{Goal, stop_after}
 use Rattle.ds_debug.specs.Watches.{all_seen}
@@ -46,17 +43,13 @@ pub record HasStopped (g : Goal) (n : ℕ) (stop : Stop) (old new : Held) : Type
   pub stops : stop_between g last new ≡ Some stop
 
 -- or to the end of the run, or before the exit of the last process, with no stop before; no time has passed since the last turn
-pub record HasEnded (g : Goal) (n : ℕ) (old new : Held) : Type 0 where
+pub record ReachesEnd (g : Goal) (n : ℕ) (old new : Held) : Type 0 where
   pub last : Held
   pub passed : HasPassed g n old last
   pub still : new.kept.state.time ≤ last.kept.state.time
   pub over : (held_goes_on n new ≡ false) ⊎ (exits_next new ≡ true)
 
--- it was cut short by this fault: the next step is refused, or memory ran out before a turn
-abbrev pub IsShort : Fault → Held → Held → Type 0
-IsShort f old new = IsCut f old new ⊎ ((f ≡ Memory) × RealPath old new)
-
 -- one of the two
-abbrev pub Goes : Goal → ℕ → Option Stop → Held → Held → Type 0
-Goes g n None = HasEnded g n
-Goes g n (Some stop) = HasStopped g n stop
+abbrev pub GoesForward : Goal → ℕ → Option Stop → Held → Held → Type 0
+GoesForward g n None = ReachesEnd g n
+GoesForward g n (Some stop) = HasStopped g n stop

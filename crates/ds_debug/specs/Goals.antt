@@ -32,8 +32,8 @@ abbrev pub goal_with : List (Option Action) → List Breakpoint → List Watchpo
 goal_with actions breakpoints watchpoints = record { aim = record { actions = actions; breakpoints = breakpoints }; watchpoints = watchpoints }
 
 -- how far a process is to go, if it is named and there
-abbrev pub action_of : List (Option Action) → Held → ℕ → Option Action
-action_of actions h p = if is_there (sight_held h) p then slice_index_or actions p None else None
+abbrev pub wanted_action : List (Option Action) → Held → ℕ → Option Action
+wanted_action actions h p = if is_there (sight_held h) p then slice_index_or actions p None else None
 
 -- an address lies from the first on, and before the second, in 32 bits
 abbrev pub is_within : ℕ → ℕ → ℕ → Bool
@@ -58,7 +58,7 @@ unit_stop_by (Some action) p pc grown = stop_by p (signal_told grown) (is_done a
 -- by who ran
 abbrev pub unit_stop : Aim → Option ℕ → ℕ → Held → Option Stop
 unit_stop a None logged h = None
-unit_stop a (Some p) logged h = unit_stop_by (action_of a.actions h p) p (address_held h p) (drop logged h.kept.log)
+unit_stop a (Some p) logged h = unit_stop_by (wanted_action a.actions h p) p (address_held h p) (drop logged h.kept.log)
 
 -- a process has a breakpoint at an address
 abbrev pub is_break : List Breakpoint → ℕ → ℕ → Bool
@@ -68,7 +68,7 @@ is_break breakpoints p pc = list_any (λ b. (b.process == p) && (b.address == pc
 abbrev pub break_stop : Aim → Option ℕ → Held → Option Stop
 break_stop a None h = None
 break_stop a (Some p) h =
-    if is_some (action_of a.actions h p) && is_break a.breakpoints p (address_held h p) then Some (record { process = p; reason = Break }) else None
+    if is_some (wanted_action a.actions h p) && is_break a.breakpoints p (address_held h p) then Some (record { process = p; reason = Break }) else None
 
 -- the first, or else the second
 abbrev pub or_else : Option Stop → Option Stop → Option Stop
@@ -77,7 +77,7 @@ or_else (Some stop) second = Some stop
 
 -- a byte of a process that is named and there is not as it was seen
 abbrev pub has_changed : Aim → Held → Seen → Bool
-has_changed a h s = is_some (action_of a.actions h s.watchpoint.process) && is_new s.value (value_at h s.watchpoint s.index)
+has_changed a h s = is_some (wanted_action a.actions h s.watchpoint.process) && is_new s.value (value_at h s.watchpoint s.index)
 
 -- the process that watches stops, whoever wrote
 abbrev pub watch_stop : Watchpoint → Stop

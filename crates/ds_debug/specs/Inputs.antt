@@ -5,10 +5,9 @@ use Rattle.ds_pagemap.specs.Inputs.{Refusal, Sources, inputs_under, inputs_under
 use Rattle.ds_pagemap.specs.Machine.{State}
 use Rattle.ds_refinement.specs.Held.{Held}
 use Rattle.ds_refinement.specs.Real.{RealPath}
-use Rattle.ds_refinement.specs.Runs.{RunsTo, RunsWithin, held_goes_on}
+use Rattle.ds_refinement.specs.Runs.{RunsTo, held_goes_on}
 use Rattle.ds_refinement.specs.Stands.{Stands}
-use Rattle.ds_station.specs.Headline.{Begins, BeginsWith, Loaded, loaded, sources_seen}
-use Rattle.ds_debug.specs.declared.inputs.Inputs.{Inputs}
+use Rattle.ds_station.specs.Headline.{Begins, BeginsWith, Loaded, loaded_with}
 
 -- a policy, sources by their names and texts, the text of an input, and where Random begins
 pub record RunInputs : Type 0 where
@@ -17,29 +16,18 @@ pub record RunInputs : Type 0 where
   pub input : List ℕ
   pub random : ℕ
 
--- those of the code
-abbrev pub inputs_seen : Inputs → RunInputs
-inputs_seen i = record { policy = i.policy.now; sources = sources_seen i.sources.now; input = i.input.now; random = i.random }
-
 -- the first state of a run of these for n, or why there is none
-abbrev pub first_of : RunInputs → ℕ → Result State Refusal
-first_of i n = inputs_under i.policy i.sources i.input n i.random
+abbrev pub first_state_of : RunInputs → ℕ → Result State Refusal
+first_state_of i n = inputs_under i.policy i.sources i.input n i.random
 
 -- what such a run begins with
 abbrev pub loaded_of : RunInputs → ℕ → Result Loaded Refusal
-loaded_of i n = inputs_under_by loaded i.policy i.sources i.input n i.random
+loaded_of i n = inputs_under_by loaded_with i.policy i.sources i.input n i.random
 
 -- a station is at the beginning of a run of these for n
 pub record IsBeginning (i : RunInputs) (n : ℕ) (h : Held) : Type 0 where
-  pub stands : Begins (first_of i n) (Stands h)
+  pub stands : Begins (first_state_of i n) (Stands h)
   pub loads : Begins (loaded_of i n) (BeginsWith i.random h)
-
--- a run of these for n comes to it, by real steps
-pub record IsReached (i : RunInputs) (n : ℕ) (h : Held) : Type 0 where
-  pub start : Held
-  pub begins : IsBeginning i n start
-  pub within : RunsWithin n start h
-  pub path : RealPath start h
 
 -- a run of these to a time ends there, by real steps
 pub record IsAt (i : RunInputs) (n time : ℕ) (h : Held) : Type 0 where

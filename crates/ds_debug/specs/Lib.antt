@@ -25,3 +25,4 @@ pub mod Answering
 pub mod Streams
 pub mod Serving
 pub mod Rows
+pub mod Inner

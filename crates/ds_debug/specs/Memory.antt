@@ -29,9 +29,9 @@ before_others None rest = []
 before_others (Some b) rest = b ∷ rest
 
 -- the bytes from an address on, up to the first that the process may not load, and so many at most
-unfoldable pub bytes_from : PageState → ℕ → ℕ → ℕ → List ℕ
-bytes_from s p address zero = []
-bytes_from s p address (suc n) = before_others (byte_read s p address) (bytes_from s p (address + 1) n)
+unfoldable pub bytes_readable_from : PageState → ℕ → ℕ → ℕ → List ℕ
+bytes_readable_from s p address zero = []
+bytes_readable_from s p address (suc n) = before_others (byte_read s p address) (bytes_readable_from s p (address + 1) n)
 
 -- at most 2,048 are told
 abbrev pub few : ℕ → ℕ
@@ -44,4 +44,4 @@ bytes_text (b ∷ bytes) = hex_text (b ∷ bytes)
 
 -- memory from an address on
 abbrev pub memory_text : PageState → ℕ → ℕ → ℕ → List ℕ
-memory_text s p address size = bytes_text (bytes_from s p address (few size))
+memory_text s p address size = bytes_text (bytes_readable_from s p address (few size))

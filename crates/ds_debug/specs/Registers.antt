@@ -1,23 +1,18 @@
 -- The registers of a process as gdb is told of them.
 use Rattle.std.specs.Prelude.{codes, ℕ, ◌==◌, ◌||◌, nat_lt, if◌then◌else◌, List, slice_index, Option, Some, None}
-use Rattle.ds_pagemap.specs.Machine.{State, process_of}
 use Rattle.ds_refinement.specs.Held.{Held}
 use Rattle.ds_station.specs.Reads.{address_held, general_held, hi_held, lo_held}
 use Rattle.ds_debug.specs.Each.{each}
-use Rattle.ds_debug.specs.Digits.{word_text}
+use Rattle.ds_debug.specs.Digits.{low_first_text}
 use Rattle.ds_debug.specs.declared.registers.Registers.{Registers}
-
--- those of a process in a machine state
-abbrev pub registers_in : State → ℕ → Registers
-registers_in m p = record { general = (process_of m p).registers.general; hi = (process_of m p).registers.hi; lo = (process_of m p).registers.lo; pc = (process_of m p).pc }
 
 -- those that a station shows
 abbrev pub registers_held : Held → ℕ → Registers
 registers_held h p = record { general = general_held h p; hi = hi_held h p; lo = lo_held h p; pc = address_held h p }
 
 -- a register by gdb's number; registers 26 and 27, and those of the coprocessors, are not told
-abbrev pub register_of : Registers → ℕ → Option ℕ
-register_of r n =
+abbrev pub gdb_register : Registers → ℕ → Option ℕ
+gdb_register r n =
     if (n == 26) || (n == 27) then None
     else if nat_lt n 32 then Some (slice_index r.general n)
     else if n == 33 then Some r.lo
@@ -28,11 +23,11 @@ register_of r n =
 -- a word, or a sign for one that is not told
 abbrev pub word_or_none : Option ℕ → List ℕ
 word_or_none None = codes "xxxxxxxx"
-word_or_none (Some w) = word_text w
+word_or_none (Some w) = low_first_text w
 
 -- a register by its number
 abbrev pub register_text : Registers → ℕ → List ℕ
-register_text r n = word_or_none (register_of r n)
+register_text r n = word_or_none (gdb_register r n)
 
 -- the 38 of the processor and its system coprocessor
 abbrev pub registers_text : Registers → List ℕ

@@ -1,20 +1,20 @@
 -- Packets after which a run goes on.
 use Rattle.std.specs.Prelude.{◌≡◌, ℕ, Bool, true, false, zero, suc, ◌+◌, ◌&&◌, not, if◌then◌else◌, List, [], ◌∷◌, ◌++◌, length, drop, Option, Some, None}
 use Rattle.ds_packets.specs.Framing.{frame}
-use Rattle.ds_packets.specs.Packets.{action_for, names}
+use Rattle.ds_packets.specs.Packets.{action_for, names_process}
 use Rattle.ds_packets.specs.declared.packet.Action.{Action}
 use Rattle.ds_packets.specs.declared.packet.Who.{Who}
 use Rattle.ds_refinement.specs.Held.{Held}
 use Rattle.ds_debug.specs.Answers.{console_text}
 use Rattle.ds_debug.specs.Exits.{exits_next}
-use Rattle.ds_debug.specs.Forward.{Goes}
+use Rattle.ds_debug.specs.Forward.{GoesForward}
 use Rattle.ds_debug.specs.Reports.{is_going}
 use Rattle.ds_debug.specs.Sights.{sight_held}
 use Rattle.ds_debug.specs.Goals.{Goal, goal_with}
 use Rattle.ds_debug.specs.Outputs.{outputs_text}
 use Rattle.ds_debug.specs.Sessions.{SessionState}
 use Rattle.ds_debug.specs.Stops.{stop_text}
-use Rattle.ds_debug.specs.Times.{asked_after, bound_by}
+use Rattle.ds_debug.specs.Times.{still_asked, bound_by}
 use Rattle.ds_debug.specs.declared.goals.Stop.{Stop}
 use Rattle.ds_debug.specs.declared.grown.Lengths.{Lengths}
 use Rattle.ds_debug.specs.declared.stops.Reason.{Reason}
@@ -42,7 +42,7 @@ grown_by b h =
 
 -- how far a process is to go: by the one action for those that go, or by the words of a vCont
 abbrev pub action_by : Option Action → Who → List ℕ → ℕ → Option Action
-action_by (Some action) going words p = if names going p then Some action else None
+action_by (Some action) going words p = if names_process going p then Some action else None
 action_by None going words p = action_for words p
 
 -- that of so many processes, the first of which has this number
@@ -79,11 +79,11 @@ bound_of s = bound_by s.stop_at s.held.kept.state.time s.limit
 
 -- what is still asked for, where it has come to this
 abbrev pub asked_of : SessionState → Held → Option ℕ
-asked_of s h = asked_after s.stop_at s.held.kept.state.time h.kept.state.time
+asked_of s h = still_asked s.stop_at s.held.kept.state.time h.kept.state.time
 
 -- the run goes on to a stop, to a time that is asked for or to its end, and what came to the consoles and the log is shown before that is told
 pub record Resumes (action : Option Action) (words : List ℕ) (old new : SessionState) (before after : List ℕ) : Type 0 where
   pub stop : Option Stop
-  pub goes : Goes (goal_of action words old) (bound_of old) stop old.held new.held
+  pub goes : GoesForward (goal_of action words old) (bound_of old) stop old.held new.held
   pub rest : new ≡ record old { held = new.held; process = came_process stop old.process; stop_at = asked_of old new.held }
   pub told : after ≡ before ++ (grown_by (lengths_of old.held) new.held ++ frame (stop_text (came_process stop old.process) (came_reason (may_go old.limit new.held) stop)))

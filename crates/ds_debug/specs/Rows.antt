@@ -13,18 +13,18 @@ use Rattle.ds_packets.specs.declared.packet.Who.TheVariants as who
 use Rattle.ds_packets.specs.declared.scan.PacketFault.TheVariants.{Sum}
 use Rattle.ds_procs.specs.declared.process.Standing.TheVariants.{Ready}
 use Rattle.ds_refinement.specs.Held.{Held, no_memory}
-use Rattle.ds_debug.specs.Answers.{answer_text, basic_features, report_text}
+use Rattle.ds_debug.specs.Answers.{answer_text, basic_features, run_report_text}
 use Rattle.ds_debug.specs.Backward.{back_reason, back_time}
 use Rattle.ds_debug.specs.Each.{each}
 use Rattle.ds_debug.specs.Exits.{is_syscall}
 use Rattle.ds_debug.specs.Goals.{Aim, watch_stop}
-use Rattle.ds_debug.specs.Memory.{bytes_from}
+use Rattle.ds_debug.specs.Memory.{bytes_readable_from}
 use Rattle.ds_debug.specs.Places.{place_after}
 use Rattle.ds_debug.specs.Resumes.{came_reason}
 use Rattle.ds_debug.specs.Sessions.{watch_text, with_watch, without_watch}
 use Rattle.ds_debug.specs.Sights.{Sight}
 use Rattle.ds_debug.specs.Stops.{stop_text}
-use Rattle.ds_debug.specs.Streams.{acknowledges_after, is_end, mark_text, scan_through}
+use Rattle.ds_debug.specs.Streams.{acknowledges_after, ends_session, mark_text, scan_through}
 use Rattle.ds_debug.specs.declared.places.Sought.TheVariants.{LastTurn, LastStop}
 use Rattle.ds_debug.specs.Watches.{is_new}
 use Rattle.ds_debug.specs.declared.stops.Reason.TheVariants as reason
@@ -73,19 +73,19 @@ register_26_is_not_told = refl
 
 -- nothing is granted
 pub memory_that_may_not_be_loaded : answer_text shown 1 (Memory 0x400000 4) ≡ codes "E14"
-unfolding bytes_from
+unfolding bytes_readable_from
 memory_that_may_not_be_loaded = refl
 
 -- how far a run has come
-pub the_time_of_a_run : report_text 9 shown Time ≡ codes "time 7 of 9, goes on\n"
+pub the_time_of_a_run : run_report_text 9 shown Time ≡ codes "time 7 of 9, goes on\n"
 unfolding digits
 the_time_of_a_run = refl
 
-pub the_end_of_a_run : report_text 7 shown Time ≡ codes "time 7 of 7, is over\n"
+pub the_end_of_a_run : run_report_text 7 shown Time ≡ codes "time 7 of 7, is over\n"
 unfolding digits
 the_end_of_a_run = refl
 
-pub each_process_has_a_line : report_text 9 shown Processes ≡ codes "1 ready 00400000\n2 ready 00400000 runs\n"
+pub each_process_has_a_line : run_report_text 9 shown Processes ≡ codes "1 ready 00400000\n2 ready 00400000 runs\n"
 unfolding each digits hex4 hex8
 each_process_has_a_line = refl
 
@@ -201,5 +201,5 @@ pub silence_is_kept : mark_text (acknowledges_after NoAcknowledgements true) 43 
 silence_is_kept = refl
 
 -- k ends the session
-pub the_session_ends : is_end End ≡ true
+pub the_session_ends : ends_session End ≡ true
 the_session_ends = refl

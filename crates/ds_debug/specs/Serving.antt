@@ -1,16 +1,14 @@
 -- What a session with gdb writes while it reads, to its end.
-use Rattle.std.specs.Prelude.{◌≡◌, ◌⊎◌, ⊤, ℕ, true, false, List, [], ◌++◌, Option, Result}
-use Rattle.std.specs.Io.KnownBytes.{Appends, Consumes, IsAtEnd, Keeps}
+use Rattle.std.specs.Prelude.{◌≡◌, ◌⊎◌, ⊤, ℕ, true, false, List, [], ◌++◌, Option}
+use Rattle.std.specs.Io.KnownBytes.{Appends, Consumes, IsAtEnd}
 use Rattle.ds_log.specs.Sent.{AppendsPart}
 use Rattle.ds_packets.specs.Scanning.{start}
-use Rattle.ds_packets.specs.declared.scan.PacketFault.{PacketFault}
 use Rattle.ds_refinement.specs.Held.{Held}
-use Rattle.ds_station.specs.Headline.{Refuses}
 use Rattle.ds_station.specs.declared.fault.Fault.{Fault}
 use Rattle.ds_station.specs.declared.fault.Fault.TheVariants as fault
-use Rattle.ds_debug.specs.Inputs.{IsBeginning, RunInputs, first_of}
+use Rattle.ds_debug.specs.Inputs.{IsBeginning, RunInputs}
 use Rattle.ds_debug.specs.Sessions.{begun}
-use Rattle.ds_debug.specs.Streams.{ExchangeState, Hears, HearsAll, HearsWords, StreamState, mark_text}
+use Rattle.ds_debug.specs.Streams.{Hears, StreamState, mark_text}
 use Rattle.ds_debug.specs.declared.serving.Ending.{Ending}
 use Rattle.ds_debug.specs.declared.serving.Ending.TheVariants.{Over, Unread}
 
@@ -30,24 +28,6 @@ pub record WritesSo (P : List ℕ → Type 0) (before after : Option (List ℕ))
   pub text : List ℕ
   pub so : P text
   pub written : Appends before after text
-
--- a front of such a text is written
-pub record WritesFront (P : List ℕ → Type 0) (before after : Option (List ℕ)) : Type 0 where
-  pub text : List ℕ
-  pub so : P text
-  pub written : AppendsPart before after text
-
--- a packet of these words is not answered whole: at most its acknowledgement is written, or a front of that and the answer
-abbrev pub IsCutAt : List ℕ → ExchangeState → Option (List ℕ) → Option (List ℕ) → Type 0
-IsCutAt words old before after =
-    AppendsPart before after (mark_text old.acknowledges 43)
-    ⊎ ((new : ExchangeState) × WritesFront (HearsWords words old new []) before after)
-
--- what came is not answered whole: at most its acknowledgement is written, or a front of what is answered
-abbrev pub IsCutIn : List (Result (List ℕ) PacketFault) → ExchangeState → Option (List ℕ) → Option (List ℕ) → Type 0
-IsCutIn items old before after =
-    AppendsPart before after (mark_text old.acknowledges 43)
-    ⊎ ((new : ExchangeState) × WritesFront (HearsAll items old new []) before after)
 
 -- of these bytes the first are heard, and a front of what is answered to them and of the acknowledgement of the next packet is written
 pub record ServedPart (bytes : List ℕ) (old : StreamState) (before after : Option (List ℕ)) : Type 0 where
@@ -99,7 +79,3 @@ abbrev pub IsLate : Fault → Type 0
 IsLate fault.WriteFault = ⊤
 IsLate fault.Memory = ⊤
 IsLate f = ⊥
-
--- when each fault comes, and what is written then
-abbrev pub DebugEndsBy : Fault → RunInputs → ℕ → Pipes → Type 0
-DebugEndsBy f i n p = (Refuses f (first_of i n) × Keeps p.unread p.left × Keeps p.old p.new) ⊎ (IsLate f × DebugsPart i n p)

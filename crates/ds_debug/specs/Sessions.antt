@@ -1,5 +1,5 @@
 -- A session: what a debugger has asked for so far, and what each packet changes.
-use Rattle.std.specs.Prelude.{◌≡◌, ◌<◌, ◌≤◌, codes, ℕ, ◌==◌, ◌&&◌, ◌||◌, Bool, false, nat_lt, if◌then◌else◌, List, [], ◌∷◌, ◌++◌, length, position, remove, Option, Some, None}
+use Rattle.std.specs.Prelude.{codes, ℕ, ◌==◌, ◌&&◌, ◌||◌, Bool, false, nat_lt, if◌then◌else◌, List, [], ◌∷◌, ◌++◌, length, position, remove, Option, Some, None}
 use Rattle.std.specs.List.{list_any}
 use Rattle.ds_packets.specs.declared.packet.Packet.{Packet}
 use Rattle.ds_packets.specs.declared.packet.Packet.TheVariants.{StopAt, Look, Go, Break, Unbreak, Watch, Unwatch}
@@ -9,7 +9,7 @@ use Rattle.ds_refinement.specs.Held.{Held}
 use Rattle.ds_station.specs.declared.outcome.Unended.{Unended}
 use Rattle.ds_debug.specs.Answers.{are_there, there_text}
 use Rattle.ds_debug.specs.Goals.{is_break}
-use Rattle.ds_debug.specs.Inputs.{IsReached, RunInputs}
+use Rattle.ds_debug.specs.Inputs.{RunInputs}
 use Rattle.ds_debug.specs.Sights.{Sight, sight_held}
 use Rattle.ds_debug.specs.declared.goals.Breakpoint.{Breakpoint}
 use Rattle.ds_debug.specs.declared.watches.Watchpoint.{Watchpoint}
@@ -36,23 +36,6 @@ named_or who.Any p = p
 named_or who.All p = p
 named_or (who.Process q) p = q
 
--- it stands between two turns of a run of its inputs, as long as that was not cut short
-pub record IsSession (s : SessionState) : Type 0 where
-  pub limit : s.limit ≤ 1000000000
-  pub process : s.process < 256
-  pub going : named_or s.going 0 < 256
-  pub whole : s.held.kept.state.owed ≡ None
-  pub spent : s.cut ≡ false → s.held.own.spent ≡ 0
-  pub working : s.cut ≡ false → s.held.own.failed ≡ false
-  pub reached : s.cut ≡ false → IsReached s.inputs s.limit s.held
-
--- the run has not gone on, and its inputs and its bound are the same; nor was it cut short
-pub record IsStill (old new : SessionState) : Type 0 where
-  pub inputs : new.inputs ≡ old.inputs
-  pub held : new.held ≡ old.held
-  pub limit : new.limit ≡ old.limit
-  pub cut : new.cut ≡ old.cut
-
 -- at its beginning
 abbrev pub begun : RunInputs → ℕ → Held → SessionState
 begun i limit h = record { inputs = i; held = h; limit = limit; process = 1; going = who.All; breakpoints = []; watchpoints = []; stop_at = None; cut = false }
@@ -66,13 +49,13 @@ abbrev pub with_break : List Breakpoint → ℕ → ℕ → List Breakpoint
 with_break bs p a = if is_break bs p a then bs else (if nat_lt (length bs) 64 then bs ++ (record { process = p; address = a }) ∷ [] else bs)
 
 -- without the one at a place
-abbrev pub without : Option ℕ → List Breakpoint → List Breakpoint
-without None bs = bs
-without (Some i) bs = remove bs i
+abbrev pub without_breakpoint : Option ℕ → List Breakpoint → List Breakpoint
+without_breakpoint None bs = bs
+without_breakpoint (Some i) bs = remove bs i
 
 -- without a breakpoint, where it is there
 abbrev pub without_break : List Breakpoint → ℕ → ℕ → List Breakpoint
-without_break bs p a = without (position (λ b. (b.process == p) && (b.address == a)) bs) bs
+without_break bs p a = without_breakpoint (position (λ b. (b.process == p) && (b.address == a)) bs) bs
 
 -- this process watches so many bytes from an address on
 abbrev pub watch_of : SessionState → ℕ → ℕ → Watchpoint

@@ -1,14 +1,13 @@
 -- What a debugger sees of a state between two turns.
-use Rattle.std.specs.Prelude.{ℕ, List, length, flat_map, Option}
-use Rattle.ds_log.specs.Text.{line_text}
+use Rattle.std.specs.Prelude.{ℕ, List, length, Option}
 use Rattle.ds_policy.specs.Grants.{PageState}
 use Rattle.ds_procs.specs.declared.process.Standing.{Standing}
-use Rattle.ds_pagemap.specs.Machine.{State, first, process_of}
+use Rattle.ds_pagemap.specs.Machine.{first, process_of}
 use Rattle.ds_refinement.specs.Held.{Held}
 use Rattle.ds_station.specs.Outcome.{first_unended}
 use Rattle.ds_station.specs.Reads.{memory_held}
 use Rattle.ds_station.specs.declared.outcome.Unended.{Unended}
-use Rattle.ds_debug.specs.Registers.{registers_held, registers_in}
+use Rattle.ds_debug.specs.Registers.{registers_held}
 use Rattle.ds_debug.specs.declared.registers.Registers.{Registers}
 
 -- the time, how many processes there are, which of them runs, which is the first that has not ended, how each stands, its registers, memory, what the consoles have, and the log
@@ -22,20 +21,6 @@ pub record Sight : Type 0 where
   pub memory : PageState
   pub consoles : List (List ℕ)
   pub log : List ℕ
-
--- that of a machine state
-abbrev pub sight_in : State → Sight
-sight_in m = record {
-  time = m.time;
-  count = length m.processes;
-  runner = first m.ready;
-  unended = first_unended m;
-  standing = λ p. (process_of m p).standing;
-  registers = registers_in m;
-  memory = m.memory;
-  consoles = m.consoles;
-  log = flat_map line_text m.log;
-}
 
 -- that of what a station holds
 abbrev pub sight_held : Held → Sight

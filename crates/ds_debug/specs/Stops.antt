@@ -16,14 +16,14 @@ signal_of Begin = 5
 signal_of End = 5
 
 -- what else is told of the reason
-abbrev pub reason_text : Reason → List ℕ
-reason_text Rest = []
-reason_text Break = codes "swbreak:;"
-reason_text (Watch a) = codes "watch:" ++ hex8 a ++ codes ";"
-reason_text (Signal s) = []
-reason_text Begin = codes "replaylog:begin;"
-reason_text End = codes "replaylog:end;"
+abbrev pub stop_reason_text : Reason → List ℕ
+stop_reason_text Rest = []
+stop_reason_text Break = codes "swbreak:;"
+stop_reason_text (Watch a) = codes "watch:" ++ hex8 a ++ codes ";"
+stop_reason_text (Signal s) = []
+stop_reason_text Begin = codes "replaylog:begin;"
+stop_reason_text End = codes "replaylog:end;"
 
 -- the process, with why it stands
 unfoldable pub stop_text : ℕ → Reason → List ℕ
-stop_text p reason = codes "T" ++ hex_pair (signal_of reason) ++ codes "thread:" ++ thread_text p ++ codes ";" ++ reason_text reason
+stop_text p reason = codes "T" ++ hex_pair (signal_of reason) ++ codes "thread:" ++ thread_text p ++ codes ";" ++ stop_reason_text reason

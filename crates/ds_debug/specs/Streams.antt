@@ -33,14 +33,14 @@ acknowledges_after NoAcknowledgements before = false
 acknowledges_after other before = before
 
 -- gdb ends the session by it
-abbrev pub is_end : Packet → Bool
-is_end End = true
-is_end other = false
+abbrev pub ends_session : Packet → Bool
+ends_session End = true
+ends_session other = false
 
 -- what changes with a packet besides the session
 abbrev pub after_words : Result Packet Refusal → ExchangeState → ExchangeState
 after_words (Err refusal) e = e
-after_words (Ok packet) e = record e { acknowledges = acknowledges_after packet e.acknowledges; ended = is_end packet }
+after_words (Ok packet) e = record e { acknowledges = acknowledges_after packet e.acknowledges; ended = ends_session packet }
 
 -- a packet of these words is answered
 pub record AnswersWords (words : List ℕ) (old new : ExchangeState) (before after : List ℕ) : Type 0 where

@@ -15,9 +15,9 @@ abbrev pub is_passed : ℕ → ℕ → ℕ → Bool
 is_passed t old new = (nat_lt old t && nat_le t new) || (nat_le new t && nat_lt t old)
 
 -- what is still asked for after it
-abbrev pub asked_after : Option ℕ → ℕ → ℕ → Option ℕ
-asked_after None old new = None
-asked_after (Some t) old new = if is_passed t old new then None else Some t
+abbrev pub still_asked : Option ℕ → ℕ → ℕ → Option ℕ
+still_asked None old new = None
+still_asked (Some t) old new = if is_passed t old new then None else Some t
 
 -- a place lies before a time
 abbrev pub is_before : Option Place → ℕ → Bool

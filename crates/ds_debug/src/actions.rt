@@ -2,7 +2,7 @@
 ghost use Rattle.std.specs.Prelude.{◌≡◌, IfOk};
 ghost use Rattle.ds_debug.specs.Resumes.{action_by, actions_by};
 
-use ds_packets::{Action, Who, action_for, names};
+use ds_packets::{Action, Who, action_for, names_process};
 use std::alloc::{AllocError, Global};
 
 /// Processes have numbers below this.
@@ -14,7 +14,7 @@ fn action_by(action: Option<Action>, going: Who, words: &[u8], process: u32) -> 
 {
     match action {
         Some(action) => {
-            if names(going, process) {
+            if names_process(going, process) {
                 Some(action)
             } else {
                 None

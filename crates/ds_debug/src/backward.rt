@@ -1,6 +1,6 @@
 //! A run that is looked through for the last place of what is sought.
 ghost use Rattle.std.specs.Prelude.{◌≡◌, ◌<◌, ◌≤◌, IfErr, IfOk, IfSome, None, false};
-ghost use Rattle.ds_station.specs.Faults.{IsNewFault};
+ghost use Rattle.ds_station.specs.Inner.Faults.{IsNewFault};
 ghost use Rattle.ds_debug.specs.Backward.{back_process, back_reason, back_time, turnless_reason};
 ghost use Rattle.ds_debug.specs.Goals.{goal_with};
 ghost use Rattle.ds_debug.specs.Places.{Finds};

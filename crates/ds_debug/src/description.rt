@@ -1,7 +1,7 @@
 //! The description of the registers.
 ghost use Rattle.std.specs.Prelude.{◌≡◌, ◌<◌, ◌≤◌, ◌+◌, ◌++◌, ◌∷◌, [], IfOk, OnOk, codes, decimal};
 ghost use Rattle.ds_debug.specs.Each.{each};
-ghost use Rattle.ds_debug.specs.Description.{after_name, before_name, description_text, end_text, floating_text, group_text, head_text, left_text, lettered_line, part_text, processor_text, register_line, system_text, three_text};
+ghost use Rattle.ds_debug.specs.Description.{after_name, before_name, description_text, end_text, floating_text, group_text, head_text, rest_text, lettered_line, text_part, processor_text, register_line, system_text, three_text};
 
 use ds_text::sheet::push_decimal;
 use std::alloc::{AllocError, Global};
@@ -152,7 +152,7 @@ fn description(alloc: Global) -> Result<Vec<u8>, AllocError>
 
 /// Adds what is left of a text, or so much of it where there is more.
 fn push_left(text: &mut Vec<u8>, left: &[u8], size: u32) -> Result<(), AllocError>
-    ensures { OnOk result (text.new.items ≡ text.old.items ++ left_text left.now size) }
+    ensures { OnOk result (text.new.items ≡ text.old.items ++ rest_text left.now size) }
 {
     if left.len() <= size as usize {
         text.extend_from_slice(b"l")?;
@@ -166,7 +166,7 @@ fn push_left(text: &mut Vec<u8>, left: &[u8], size: u32) -> Result<(), AllocErro
 /// Adds a part of a text, from a place on, of at most so many bytes.
 #[tactic(auto, using(std::proofs::lemmas::List::drop_min))]
 fn push_part(text: &mut Vec<u8>, whole: &[u8], offset: u32, size: u32) -> Result<(), AllocError>
-    ensures { OnOk result (text.new.items ≡ text.old.items ++ part_text whole.now offset size) }
+    ensures { OnOk result (text.new.items ≡ text.old.items ++ text_part whole.now offset size) }
 {
     let place = (offset as usize).min(whole.len());
     push_left(text, &whole[place..], size)
@@ -180,7 +180,7 @@ pub(crate) fn push_description(
     size: u32,
 ) -> Result<(), AllocError>
     ensures { OnOk result (text.new.items ≡ text.old.items
-        ++ part_text description_text offset size) }
+        ++ text_part description_text offset size) }
 {
     let whole = description(alloc)?;
     push_part(text, whole.as_slice(), offset, size)

@@ -1,13 +1,13 @@
 //! Numbers in digits.
 ghost use Rattle.std.specs.Prelude.{◌≡◌, ◌<◌, ◌^◌, ◌++◌, OnOk, decimal};
-ghost use Rattle.ds_debug.specs.Digits.{number_text, word_text};
+ghost use Rattle.ds_debug.specs.Digits.{number_text, low_first_text};
 
 use ds_packets::{hex_digit, push_hex};
 use std::alloc::AllocError;
 
 /// Adds a word in hexadecimal digits, its lowest byte first.
 pub(crate) fn push_word(text: &mut Vec<u8>, word: u32) -> Result<(), AllocError>
-    ensures { OnOk result (text.new.items ≡ text.old.items ++ word_text word) }
+    ensures { OnOk result (text.new.items ≡ text.old.items ++ low_first_text word) }
 {
     push_hex(
         text,

@@ -1,10 +1,11 @@
 //! A run that goes forward, turn by turn, to where something stops.
 ghost use Rattle.std.specs.Prelude.{◌≡◌, ◌≤◌, IfErr, IfOk, IfSome, None, OnErr, OnOk, false};
 ghost use Rattle.ds_refinement.specs.Real.{RealPath};
-ghost use Rattle.ds_refinement.specs.Runs.{RunsWithin};
-ghost use Rattle.ds_refinement.specs.Stands.{IsSound};
-ghost use Rattle.ds_station.specs.Faults.{IsNewFault};
-ghost use Rattle.ds_debug.specs.Forward.{Goes, IsShort};
+ghost use Rattle.ds_refinement.specs.Inner.Runs.{RunsWithin};
+ghost use Rattle.ds_refinement.specs.Inner.Stands.{IsSound};
+ghost use Rattle.ds_station.specs.Inner.Faults.{IsNewFault};
+ghost use Rattle.ds_debug.specs.Forward.{GoesForward};
+ghost use Rattle.ds_debug.specs.Inner.Forward.{IsShort};
 ghost use Rattle.ds_debug.specs.Goals.{goal_with};
 
 use crate::exits::exits_next;
@@ -31,7 +32,7 @@ pub(crate) fn go<L: Lookaside>(
     requires whole { station.old.held.kept.state.owed ≡ None }
     requires spent { station.old.held.own.spent ≡ 0 }
     requires working { station.old.held.own.failed ≡ false }
-    ensures goes { IfOk result (λ stop. Goes
+    ensures goes { IfOk result (λ stop. GoesForward
         (goal_with actions.now breakpoints.now watchpoints.now)
         n stop station.old.held station.new.held) }
     ensures small { IfOk result (λ stop. IfSome stop (λ s. s.process ≤ 100)) }

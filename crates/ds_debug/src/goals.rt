@@ -3,7 +3,7 @@ ghost use Rattle.std.specs.Prelude.{◌≡◌, ◌<◌, ◌≤◌, ◌==◌, ◌
 ghost use Rattle.std.specs.List.{list_any};
 ghost use Rattle.ds_station.specs.Reads.{address_held};
 ghost use Rattle.ds_pagemap.specs.Machine.{first};
-ghost use Rattle.ds_debug.specs.Goals.{action_of, break_stop, first_changed, has_changed, is_break, is_done, is_within, stop_after, stop_by, turn_stop, unit_stop, unit_stop_by, watch_stop};
+ghost use Rattle.ds_debug.specs.Goals.{wanted_action, break_stop, first_changed, has_changed, is_break, is_done, is_within, stop_after, stop_by, turn_stop, unit_stop, unit_stop_by, watch_stop};
 
 use crate::denials::signal_told;
 use crate::look::is_there;
@@ -29,12 +29,12 @@ pub struct Stop {
 }
 
 /// How far a process is to go, if it is named and there.
-fn action_of<L: Lookaside>(
+fn wanted_action<L: Lookaside>(
     actions: &[Option<Action>],
     station: &Station<L>,
     process: u32,
 ) -> Option<Action>
-    ensures value { result ≡ action_of actions.now station.now.held process }
+    ensures value { result ≡ wanted_action actions.now station.now.held process }
     ensures there { IsSome result → (0 < process)
         × (process ≤ length station.now.held.kept.state.processes) × (process ≤ 100) }
 {
@@ -118,7 +118,7 @@ fn unit_stop<L: Lookaside>(
         runner logged station.now.held }
 {
     let process = runner?;
-    let action = action_of(actions, station, process)?;
+    let action = wanted_action(actions, station, process)?;
     stop_of(station, process, action, logged)
 }
 
@@ -143,7 +143,7 @@ fn break_stop<L: Lookaside>(
         (first station.now.held.kept.state.ready) station.now.held }
 {
     let process = station.runner()?;
-    if action_of(actions, station, process).is_some()
+    if wanted_action(actions, station, process).is_some()
         && is_break(breakpoints, process, station.address(process))
     {
         let reason = Reason::Break;
@@ -165,7 +165,7 @@ fn has_changed<L: Lookaside>(
         (record { actions = actions.now; breakpoints = breakpoints.now })
         station.now.held seen }
 {
-    action_of(actions, station, seen.watchpoint.process).is_some()
+    wanted_action(actions, station, seen.watchpoint.process).is_some()
         && is_new(seen.value, value_at(station, seen.watchpoint, seen.index))
 }
 

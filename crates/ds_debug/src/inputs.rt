@@ -1,8 +1,9 @@
 //! What a run begins with, and stations of its runs.
 ghost use Rattle.std.specs.Prelude.{◌≡◌, ◌≤◌, ◌⊎◌, IfErr, IfOk, None, OnOk, false};
-ghost use Rattle.ds_station.specs.Faults.{IsNewFault};
+ghost use Rattle.ds_station.specs.Inner.Faults.{IsNewFault};
 ghost use Rattle.ds_station.specs.Headline.{Refuses};
-ghost use Rattle.ds_debug.specs.Inputs.{IsAt, IsBeginning, first_of, inputs_seen};
+ghost use Rattle.ds_debug.specs.Inputs.{IsAt, IsBeginning, first_state_of};
+ghost use Rattle.ds_debug.specs.Inner.Inputs.{inputs_seen};
 
 use ds_policy::Policy;
 use ds_station::{Fault, Station, prepare};
@@ -32,7 +33,7 @@ pub(crate) fn station_at_start<'a>(
     ensures whole { IfOk result (λ s. s.held.kept.state.owed ≡ None) }
     ensures spent { IfOk result (λ s. s.held.own.spent ≡ 0) }
     ensures working { IfOk result (λ s. s.held.own.failed ≡ false) }
-    ensures err { IfErr result (λ f. Refuses f (first_of (inputs_seen inputs.entry) limit)) }
+    ensures err { IfErr result (λ f. Refuses f (first_state_of (inputs_seen inputs.entry) limit)) }
 {
     prepare(
         alloc,
@@ -53,7 +54,7 @@ pub(crate) fn station_at<'a>(
 ) -> Result<Station<Indexed<64, 8>>, Fault>
     requires { time ≤ 1000000000 }
     ensures faults { IfErr result (λ f. IsNewFault f
-        ⊎ Refuses f (first_of (inputs_seen inputs.entry) limit)) }
+        ⊎ Refuses f (first_state_of (inputs_seen inputs.entry) limit)) }
     ensures at { IfOk result (λ s. IsAt (inputs_seen inputs.entry) limit time s.held) }
     ensures whole { IfOk result (λ s. s.held.kept.state.owed ≡ None) }
     ensures spent { IfOk result (λ s. s.held.own.spent ≡ 0) }

@@ -2,7 +2,7 @@
 ghost use Rattle.std.specs.Prelude.{◌≡◌, ◌++◌, ℕ, List};
 ghost use Rattle.ds_packets.specs.Scanning.{start};
 ghost use Rattle.ds_packets.specs.Scans.{Scan};
-ghost use Rattle.ds_packets.specs.Streams.{Piece, Splits, all_said};
+ghost use Rattle.ds_packets.specs.Inner.Streams.{Piece, Splits, all_said};
 ghost use Rattle.ds_debug.specs.Streams.{Hears, HearsAll, StreamState};
 
 /// What is written to a chunk of a stream and then to the next is what is written to both at once; and

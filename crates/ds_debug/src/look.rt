@@ -1,7 +1,7 @@
 //! Answers to packets that only look.
 ghost use Rattle.std.specs.Prelude.{◌≡◌, ◌<◌, ◌≤◌, ◌++◌, OnOk, codes, length, true};
 ghost use Rattle.ds_packets.specs.Framing.{hex_text};
-ghost use Rattle.ds_debug.specs.Answers.{answer_text, are_there, basic_features, console_text, features_text, info_text, is_there, of_process, report_text, seen_text, there_text};
+ghost use Rattle.ds_debug.specs.Answers.{answer_text, are_there, basic_features, console_text, features_text, info_text, is_there, of_process, run_report_text, seen_text, there_text};
 ghost use Rattle.ds_debug.specs.Reports.{is_runner, thread_words};
 ghost use Rattle.ds_debug.specs.Sights.{sight_held};
 ghost use Rattle.ds_debug.specs.Threads.{thread_text};
@@ -222,7 +222,7 @@ pub(crate) fn push_report<L: Lookaside>(
     report: Report,
 ) -> Result<(), AllocError>
     ensures { OnOk result (out.new.items ≡ out.old.items
-        ++ outputs_text (report_text n (sight_held station.now.held) report)) }
+        ++ outputs_text (run_report_text n (sight_held station.now.held) report)) }
 {
     let mut text = Vec::new(alloc);
     match report {

@@ -4,7 +4,7 @@ ghost use Rattle.ds_pagemap.specs.Machine.{State};
 ghost use Rattle.ds_refinement.specs.Stands.{Stands};
 ghost use Rattle.ds_station.specs.Reads.{memory_held};
 ghost use Rattle.ds_debug.specs.Memory as memory;
-ghost use Rattle.ds_debug.specs.Memory.{byte_read, bytes_from, bytes_text, memory_text};
+ghost use Rattle.ds_debug.specs.Memory.{byte_read, bytes_readable_from, bytes_text, memory_text};
 
 use ds_packets::push_hex;
 use ds_station::Station;
@@ -31,7 +31,7 @@ pub(crate) fn byte_read<L: Lookaside>(
 }
 
 /// The bytes from an address on, up to the first that the process may not load, and so many at most.
-fn bytes_from<L: Lookaside>(
+fn bytes_readable_from<L: Lookaside>(
     alloc: Global,
     station: &Station<L>,
     process: u32,
@@ -41,7 +41,7 @@ fn bytes_from<L: Lookaside>(
     requires above { 0 < process }
     requires within { process ≤ length station.now.held.kept.state.processes }
     ensures { IfOk result (λ bytes. bytes.items
-        ≡ bytes_from (memory_held station.now.held) process address count) }
+        ≡ bytes_readable_from (memory_held station.now.held) process address count) }
 {
     let mut bytes = Vec::new(alloc);
     for index in 0..count {
@@ -93,6 +93,6 @@ pub(crate) fn push_memory<L: Lookaside>(
     ensures { OnOk result (text.new.items ≡ text.old.items
         ++ memory_text (memory_held station.now.held) process address count) }
 {
-    let bytes = bytes_from(alloc, station, process, address, few(count))?;
+    let bytes = bytes_readable_from(alloc, station, process, address, few(count))?;
     push_bytes(text, bytes.as_slice())
 }

@@ -2,7 +2,8 @@
 ghost use Rattle.std.specs.Prelude.{◌≡◌, ◌<◌, ◌≤◌, ◌++◌, OnOk, length};
 ghost use Rattle.ds_pagemap.specs.Machine.{State};
 ghost use Rattle.ds_refinement.specs.Stands.{Stands};
-ghost use Rattle.ds_debug.specs.Registers.{register_of, register_text, registers_held, registers_in, registers_text, word_or_none};
+ghost use Rattle.ds_debug.specs.Registers.{gdb_register, register_text, registers_held, registers_text, word_or_none};
+ghost use Rattle.ds_debug.specs.Inner.Registers.{registers_in};
 
 use crate::digits::push_word;
 use ds_station::Station;
@@ -42,7 +43,7 @@ impl Registers {
 
     /// A register by gdb's number, if it can be told.
     fn register(&self, number: u32) -> Option<u32>
-        ensures { result ≡ register_of self.now number }
+        ensures { result ≡ gdb_register self.now number }
     {
         if number == 26 || number == 27 {
             None

@@ -2,9 +2,10 @@
 ghost use Rattle.std.specs.Prelude.{◌≡◌, ◌∷◌, [], IfErr, IfOk, IfSome, OnErr, OnOk, false};
 ghost use Rattle.std.specs.Io.KnownBytes.{Appends};
 ghost use Rattle.ds_log.specs.Sent.{AppendsPart};
-ghost use Rattle.ds_packets.specs.Streams.{listed};
-ghost use Rattle.ds_debug.specs.Inputs.{inputs_seen};
-ghost use Rattle.ds_debug.specs.Serving.{Debugs, DebugEndsBy, EndsSo, IsCutAt, IsCutIn, IsLate, ServedPart, Serves, ServesPart, WritesSo, pipes};
+ghost use Rattle.ds_packets.specs.Streams.{as_list};
+ghost use Rattle.ds_debug.specs.Inner.Inputs.{inputs_seen};
+ghost use Rattle.ds_debug.specs.Serving.{Debugs, EndsSo, IsLate, ServedPart, Serves, ServesPart, WritesSo, pipes};
+ghost use Rattle.ds_debug.specs.Inner.Serving.{DebugEndsBy, IsCutAt, IsCutIn};
 ghost use Rattle.ds_debug.specs.Streams.{Hears, HearsAll, HearsWords, mark_text};
 
 use crate::inputs::Inputs;
@@ -118,9 +119,9 @@ impl<'a> Exchange<'a> {
         came: Option<Result<Data, PacketFault>>,
         out: &mut W,
     ) -> Result<(), Fault>
-        ensures ok { OnOk result (WritesSo (HearsAll (listed came) self.old self.new [])
+        ensures ok { OnOk result (WritesSo (HearsAll (as_list came) self.old self.new [])
             (W.contents out.old) (W.contents out.new)) }
-        ensures err { OnErr result (IsCutIn (listed came) self.old
+        ensures err { OnErr result (IsCutIn (as_list came) self.old
             (W.contents out.old) (W.contents out.new)) }
         ensures faults { self.old.session.cut ≡ false → IfErr result IsLate }
         ensures uncut { OnOk result (self.new.session.cut ≡ self.old.session.cut) }

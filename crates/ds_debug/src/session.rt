@@ -2,22 +2,26 @@
 ghost use Rattle.std.specs.Prelude.{◌≡◌, ◌<◌, ◌≤◌, ◌==◌, ◌&&◌, ◌++◌, [], IfErr, IfOk, IfSome, None, Ok, OnErr, OnOk, Some, codes, false, length, not, position, true};
 ghost use Rattle.ds_packets.specs.Framing.{frame};
 ghost use Rattle.ds_refinement.specs.Real.{RealPath};
-ghost use Rattle.ds_refinement.specs.Runs.{RunsWithin};
-ghost use Rattle.ds_station.specs.Faults.{IsNewFault};
+ghost use Rattle.ds_refinement.specs.Inner.Runs.{RunsWithin};
+ghost use Rattle.ds_station.specs.Inner.Faults.{IsNewFault};
 ghost use Rattle.ds_station.specs.Headline.{Refuses};
 ghost use Rattle.ds_pagemap.specs.Machine.{State};
 ghost use Rattle.ds_refinement.specs.Stands.{Stands};
-ghost use Rattle.ds_debug.specs.Answering.{Answers, AnswersPacket, TellsOf, after_plain, course_by, goes_back, is_back, plain_text, refusal_text};
-ghost use Rattle.ds_debug.specs.Answers.{answer_text, report_text};
-ghost use Rattle.ds_debug.specs.Backward.{ComesBack, FindsIn, Returns, ReturnsBy, back_of, until_of};
-ghost use Rattle.ds_debug.specs.Forward.{Goes, IsShort};
+ghost use Rattle.ds_debug.specs.Answering.{Answers, AnswersPacket, after_plain, course_by, plain_text, packet_error_text};
+ghost use Rattle.ds_debug.specs.Inner.Answering.{TellsOf, goes_back, is_back};
+ghost use Rattle.ds_debug.specs.Answers.{answer_text, run_report_text};
+ghost use Rattle.ds_debug.specs.Backward.{ComesBack, FindsIn, Returns, ReturnsBy, process_going_back, looked_until};
+ghost use Rattle.ds_debug.specs.Forward.{GoesForward};
+ghost use Rattle.ds_debug.specs.Inner.Forward.{IsShort};
 ghost use Rattle.ds_debug.specs.Goals.{goal_with};
-ghost use Rattle.ds_debug.specs.Inputs.{IsBeginning, IsReached, first_of, inputs_seen};
+ghost use Rattle.ds_debug.specs.Inputs.{IsBeginning, first_state_of};
+ghost use Rattle.ds_debug.specs.Inner.Inputs.{IsReached, inputs_seen};
 ghost use Rattle.ds_debug.specs.Outputs.{outputs_text};
 ghost use Rattle.ds_debug.specs.Resumes.{Resumes, bound_of, came_process, came_reason, goal_of, may_go};
-ghost use Rattle.ds_debug.specs.Sessions.{IsStill, after_setting, begun, is_same_watch, is_watch, named_or, setting_text, sight_of, told_first};
+ghost use Rattle.ds_debug.specs.Sessions.{after_setting, begun, is_same_watch, is_watch, named_or, setting_text, sight_of, told_first};
+ghost use Rattle.ds_debug.specs.Inner.Sessions.{IsStill};
 ghost use Rattle.ds_debug.specs.Stops.{stop_text};
-ghost use Rattle.ds_debug.specs.Times.{asked_after};
+ghost use Rattle.ds_debug.specs.Times.{still_asked};
 
 use crate::actions::actions_by;
 use crate::backward::{back_process, back_reason, back_time, find_last};
@@ -30,7 +34,7 @@ use crate::look::{are_there, push_answer, push_report};
 use crate::places::{Place, Sought, sought_by};
 use crate::reports::is_going;
 use crate::stops::{Reason, push_stop};
-use crate::times::{asked_after, asked_place, bound_by, earlier};
+use crate::times::{asked_place, bound_by, earlier, still_asked};
 use crate::watches::Watchpoint;
 use arrayvec::ArrayVec;
 use ds_packets::{Action, Packet, Refusal, Report, Who, push_frame};
@@ -67,8 +71,9 @@ pub struct Session<'a> {
 }
 
 impl<'a> Model for Session<'a> {
-    ghost use Rattle.ds_debug.specs.Inputs.{inputs_seen};
-    ghost use Rattle.ds_debug.specs.Sessions.{IsSession, SessionState};
+    ghost use Rattle.ds_debug.specs.Inner.Inputs.{inputs_seen};
+    ghost use Rattle.ds_debug.specs.Sessions.{SessionState};
+    ghost use Rattle.ds_debug.specs.Inner.Sessions.{IsSession};
 
     ghost Value = { SessionState };
 
@@ -108,7 +113,7 @@ fn named_or(who: Who, process: u32) -> u32
 }
 
 /// The place of a breakpoint, where it is there.
-fn place_of(breakpoints: &[Breakpoint], process: u32, address: u32) -> Option<usize>
+fn breakpoint_place(breakpoints: &[Breakpoint], process: u32, address: u32) -> Option<usize>
     ensures place { result ≡ position
         (λ b. (b.process == process) && (b.address == address)) breakpoints.now }
     ensures within { IfSome result (λ place. place < length breakpoints.now) }
@@ -146,7 +151,7 @@ fn place_of_watch(watchpoints: &[Watchpoint], watchpoint: Watchpoint) -> Option<
 
 /// Adds the error of a packet that is not known, which is empty, or malformed.
 fn push_refusal(out: &mut Vec<u8>, refusal: Refusal) -> Result<(), AllocError>
-    ensures { OnOk result (out.new.items ≡ out.old.items ++ frame (refusal_text refusal)) }
+    ensures { OnOk result (out.new.items ≡ out.old.items ++ frame (packet_error_text refusal)) }
 {
     match refusal {
         Refusal::Unknown => push_frame(out, &[]),
@@ -184,7 +189,7 @@ impl<'a> Session<'a> {
         ensures begun { IfOk result (λ s. s ≡ begun (inputs_seen inputs.entry) limit s.held) }
         ensures begins { IfOk result
             (λ s. IsBeginning (inputs_seen inputs.entry) limit s.held) }
-        ensures err { IfErr result (λ f. Refuses f (first_of (inputs_seen inputs.entry) limit)) }
+        ensures err { IfErr result (λ f. Refuses f (first_state_of (inputs_seen inputs.entry) limit)) }
     {
         let station = match station_at_start(alloc, inputs, limit) {
             Ok(station) => station,
@@ -266,7 +271,7 @@ impl<'a> Session<'a> {
         ensures changed { self.new ≡ after_setting self.old (Packet.Unbreak address) }
         ensures still { IsStill self.old self.new }
     {
-        let place = place_of(self.breakpoints.as_slice(), self.process, address);
+        let place = breakpoint_place(self.breakpoints.as_slice(), self.process, address);
         match place {
             Some(place) => {
                 let _ = self.breakpoints.remove(place);
@@ -398,7 +403,7 @@ impl<'a> Session<'a> {
         out: &mut Vec<u8>,
     ) -> Result<(), AllocError>
         ensures { OnOk result (out.new.items ≡ out.old.items
-            ++ (outputs_text (report_text self.now.limit (sight_of self.now) report)
+            ++ (outputs_text (run_report_text self.now.limit (sight_of self.now) report)
             ++ frame (codes "OK"))) }
     {
         push_report(alloc, out, &self.station, self.limit, report)?;
@@ -406,9 +411,9 @@ impl<'a> Session<'a> {
     }
 
     /// Goes on with the run, where it was not cut short, by how far each process is to go.
-    fn go_on(&mut self, alloc: Global, actions: &[Option<Action>]) -> Result<Option<Stop>, Fault>
+    fn run_on(&mut self, alloc: Global, actions: &[Option<Action>]) -> Result<Option<Stop>, Fault>
         requires { self.old.cut ≡ false }
-        ensures goes { IfOk result (λ stop. Goes
+        ensures goes { IfOk result (λ stop. GoesForward
             (goal_with actions.now self.old.breakpoints self.old.watchpoints)
             (bound_of self.old) stop self.old.held self.new.held) }
         ensures small { IfOk result (λ stop. IfSome stop (λ s. s.process ≤ 100)) }
@@ -458,10 +463,10 @@ impl<'a> Session<'a> {
     /// Asks no more for a time that was passed on the way from another time.
     fn drop_time(&mut self, began: u64)
         ensures { self.new ≡ record self.old {
-          stop_at = asked_after self.old.stop_at began self.old.held.kept.state.time;
+          stop_at = still_asked self.old.stop_at began self.old.held.kept.state.time;
         } }
     {
-        self.stop_at = asked_after(self.stop_at, began, self.station.time());
+        self.stop_at = still_asked(self.stop_at, began, self.station.time());
     }
 
     /// Tells that the process that is looked at stands, and why.
@@ -502,7 +507,7 @@ impl<'a> Session<'a> {
         let before = lengths_of(&self.station);
         let began = self.station.time();
         let actions = actions_by(alloc, action, self.going, words)?;
-        let came = match self.go_on(alloc, actions.as_slice()) {
+        let came = match self.run_on(alloc, actions.as_slice()) {
             Ok(came) => came,
             Err(fault) => return Err(fault),
         };
@@ -516,10 +521,10 @@ impl<'a> Session<'a> {
     /// Looks through a run of the same inputs, up to now, for the last place of what is sought.
     fn seek(&self, alloc: Global, sought: Sought) -> Result<Option<Place>, Fault>
         ensures finds { IfOk result (λ place. FindsIn self.now.inputs self.now.limit sought
-            (goal_of (Some Action.Continue) [] self.now) (until_of self.now) place) }
+            (goal_of (Some Action.Continue) [] self.now) (looked_until self.now) place) }
         ensures small { IfOk result (λ place. IfSome place (λ p. p.stop.process ≤ 100)) }
         ensures early { IfOk result
-            (λ place. IfSome place (λ p. p.time ≤ until_of self.now)) }
+            (λ place. IfSome place (λ p. p.time ≤ looked_until self.now)) }
         ensures faults { self.now.cut ≡ false → IfErr result IsNewFault }
     {
         let until = earlier(self.station.time(), self.limit);
@@ -573,8 +578,8 @@ impl<'a> Session<'a> {
     }
 
     /// The process that goes back: the one that is named to go, or else the one that is looked at.
-    fn back_of(&self) -> u32
-        ensures value { result ≡ back_of self.now }
+    fn process_going_back(&self) -> u32
+        ensures value { result ≡ process_going_back self.now }
         ensures small { result < 256 }
     {
         named_or(self.going, self.process)
@@ -627,7 +632,7 @@ impl<'a> Session<'a> {
         if self.cut {
             return Err(Fault::Failed);
         }
-        let process = self.back_of();
+        let process = self.process_going_back();
         self.return_by(alloc, sought_by(action, process), process, out)
     }
 

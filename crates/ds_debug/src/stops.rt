@@ -1,6 +1,6 @@
 //! What gdb is told of a process that stands.
 ghost use Rattle.std.specs.Prelude.{◌≡◌, ◌<◌, ◌++◌, OnOk, codes};
-ghost use Rattle.ds_debug.specs.Stops.{reason_text, signal_of, stop_text};
+ghost use Rattle.ds_debug.specs.Stops.{stop_reason_text, signal_of, stop_text};
 
 use crate::threads::push_thread;
 use ds_packets::push_hex;
@@ -37,7 +37,7 @@ fn signal_of(reason: Reason) -> u8
 
 /// Adds that what is watched from an address on has changed.
 fn push_watch(text: &mut Vec<u8>, address: u32) -> Result<(), AllocError>
-    ensures { OnOk result (text.new.items ≡ text.old.items ++ reason_text (Reason.Watch address)) }
+    ensures { OnOk result (text.new.items ≡ text.old.items ++ stop_reason_text (Reason.Watch address)) }
 {
     text.extend_from_slice(b"watch:")?;
     sheet::push_hex(text, address)?;
@@ -46,7 +46,7 @@ fn push_watch(text: &mut Vec<u8>, address: u32) -> Result<(), AllocError>
 
 /// Adds what else is told of the reason.
 fn push_reason(text: &mut Vec<u8>, reason: Reason) -> Result<(), AllocError>
-    ensures { OnOk result (text.new.items ≡ text.old.items ++ reason_text reason) }
+    ensures { OnOk result (text.new.items ≡ text.old.items ++ stop_reason_text reason) }
 {
     match reason {
         Reason::Break => text.extend_from_slice(b"swbreak:;"),

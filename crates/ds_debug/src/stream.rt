@@ -1,9 +1,9 @@
 //! gdb's stream of bytes: what is written while they come.
 ghost use Rattle.std.specs.Prelude.{◌≡◌, ◌++◌, IfErr, Ok, OnErr, OnOk, false, true};
-ghost use Rattle.ds_station.specs.Faults.{IsNewFault};
+ghost use Rattle.ds_station.specs.Inner.Faults.{IsNewFault};
 ghost use Rattle.ds_packets.specs.Scanning.{start};
-ghost use Rattle.ds_packets.specs.Streams.{listed};
-ghost use Rattle.ds_debug.specs.Streams.{AnswersWords, Hears, HearsAll, HearsOne, HearsWords, acknowledges_after, is_end, mark_text};
+ghost use Rattle.ds_packets.specs.Streams.{as_list};
+ghost use Rattle.ds_debug.specs.Streams.{AnswersWords, Hears, HearsAll, HearsOne, HearsWords, acknowledges_after, ends_session, mark_text};
 
 use crate::session::Session;
 use ds_packets::{Data, Packet, PacketFault, Scanner};
@@ -33,8 +33,8 @@ fn acknowledges_after(packet: Packet, before: bool) -> bool
 }
 
 /// Whether gdb ends the session by a packet.
-fn is_end(packet: Packet) -> bool
-    ensures { result ≡ is_end packet }
+fn ends_session(packet: Packet) -> bool
+    ensures { result ≡ ends_session packet }
 {
     match packet {
         Packet::End => true,
@@ -91,7 +91,7 @@ impl<'a> Exchange<'a> {
         match Packet::of(words) {
             Ok(packet) => {
                 self.acknowledges = acknowledges_after(packet, self.acknowledges);
-                self.ended = is_end(packet);
+                self.ended = ends_session(packet);
                 Ok(())
             }
             Err(_) => Ok(()),
@@ -136,7 +136,7 @@ impl<'a> Exchange<'a> {
         came: Option<Result<Data, PacketFault>>,
         out: &mut Vec<u8>,
     ) -> Result<(), Fault>
-        ensures { OnOk result (HearsAll (listed came) self.old self.new
+        ensures { OnOk result (HearsAll (as_list came) self.old self.new
             out.old.items out.new.items) }
     {
         match came {

@@ -1,7 +1,7 @@
 //! A time at which a run is to stop once.
 ghost use Rattle.std.specs.Prelude.{◌≡◌, ◌<◌, ◌≤◌, IfSome};
 ghost use Rattle.ds_debug.specs.Places.{earlier};
-ghost use Rattle.ds_debug.specs.Times.{asked_after, asked_place, bound_by, is_before, is_passed};
+ghost use Rattle.ds_debug.specs.Times.{still_asked, asked_place, bound_by, is_before, is_passed};
 
 use crate::goals::Stop;
 use crate::places::{Place, Sought};
@@ -34,8 +34,8 @@ fn is_passed(asked: u64, old: u64, new: u64) -> bool
 }
 
 /// What is still asked for after a way from one time to another.
-pub(crate) fn asked_after(asked: Option<u64>, old: u64, new: u64) -> Option<u64>
-    ensures { result ≡ asked_after asked old new }
+pub(crate) fn still_asked(asked: Option<u64>, old: u64, new: u64) -> Option<u64>
+    ensures { result ≡ still_asked asked old new }
 {
     match asked {
         Some(asked) => {

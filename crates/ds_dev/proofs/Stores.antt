@@ -6,7 +6,8 @@ use Rattle.ds_isa.specs.declared.instr.Size.{Size}
 use Rattle.ds_isa.specs.declared.instr.Size.TheVariants.{Byte, Half, Word, Part}
 use Rattle.ds_word.specs.Bytes.{word_at, with_word}
 use Rattle.ds_word.proofs.Bytes.{same_bytes, word_at-with_word_apart, length-with_word}
-use Rattle.ds_dev.specs.Bus.{alignment, memory_store}
+use Rattle.ds_dev.specs.Bus.{memory_store}
+use Rattle.ds_dev.specs.Inner.Bus.{alignment}
 
 -- a byte of a word of another frame
 apart_by : (a other i : ℕ) → i < 4 → other / 4096 ≢ a / 4096 → other - other % 4 + i ≢ a

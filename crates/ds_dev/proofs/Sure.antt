@@ -6,9 +6,10 @@ use Rattle.std.specs.Prelude.{Box, slice_index_or}
 use Rattle.std.specs.Global.{Global}
 use Rattle.ds_isa.specs.declared.instr.Size.{Size}
 use Rattle.ds_word.specs.Bytes.{word_at}
-use Rattle.ds_pages.specs.Page.{PageState, HoldsWords}
-use Rattle.ds_dev.specs.Bus.{alignment, memory_store}
-use Rattle.ds_dev.specs.Known.{Room, room_of, with_room, HoldsFrame, IsKnown}
+use Rattle.ds_pages.specs.Inner.Page.{KnownPageState, HoldsWords}
+use Rattle.ds_dev.specs.Bus.{memory_store}
+use Rattle.ds_dev.specs.Inner.Bus.{alignment}
+use Rattle.ds_dev.specs.Inner.Known.{Room, room_of, with_room, HoldsFrame, IsKnown}
 use Rattle.ds_dev.proofs.Stores.{word_at-memory_store_apart, length-memory_store}
 
 -- what is read past the end, or where the default was put, is the default
@@ -37,7 +38,7 @@ empty_holds : (room : Room) (memory : List ℕ) (f : ℕ) → room ≡ None → 
 empty_holds room memory f is = subst (λ (r : Room). HoldsFrame r memory f) (sym is) tt
 
 -- a room whose page was put there, where it is one
-filled_holds : (rooms : Option (List Room)) (memory : List ℕ) (f : ℕ) (page : Box PageState Global) → HoldsWords page.value memory (4096 * f)
+filled_holds : (rooms : Option (List Room)) (memory : List ℕ) (f : ℕ) (page : Box KnownPageState Global) → HoldsWords page.value memory (4096 * f)
     → HoldsFrame (room_of (with_room rooms f (Some page)) f) memory f
 filled_holds None memory f page holds = tt
 filled_holds (Some rooms) memory f page holds = elim (cases_lt f (length rooms)) [
@@ -56,7 +57,7 @@ taken memory rooms sure f known = record {
 }
 
 -- a page that holds the words of its frame is given back
-pub given : (memory : List ℕ) (rooms : Option (List Room)) (sure : List Bool) (f : ℕ) (page : Box PageState Global) → HoldsWords page.value memory (4096 * f)
+pub given : (memory : List ℕ) (rooms : Option (List Room)) (sure : List Bool) (f : ℕ) (page : Box KnownPageState Global) → HoldsWords page.value memory (4096 * f)
     → IsKnown memory rooms sure → IsKnown memory (with_room rooms f (Some page)) (slice_set sure f true)
 given memory rooms sure f page holds known = record {
   size = known.size;

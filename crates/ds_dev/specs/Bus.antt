@@ -1,5 +1,5 @@
 -- The bus: memory, the serial lines, the clock and the system register, each at its place.
-use Rattle.std.specs.Prelude.{ℕ, ◌+◌, ◌*◌, ◌/◌, ◌%◌, ◌^◌, Bool, true, false, ◌&&◌, ◌||◌, nat_lt, nat_le, ◌==◌, if◌then◌else◌, List, slice_index, slice_set, Result, Ok, Err}
+use Rattle.std.specs.Prelude.{ℕ, ◌+◌, ◌*◌, ◌/◌, ◌%◌, ◌^◌, Bool, true, false, ◌&&◌, nat_lt, nat_le, ◌==◌, if◌then◌else◌, List, slice_index, slice_set, Result, Ok, Err}
 use Rattle.ds_word.specs.Word.{bits, bit}
 use Rattle.ds_isa.specs.declared.instr.Size.{Size}
 use Rattle.ds_isa.specs.declared.instr.Size.TheVariants.{Byte, Half, Word, Part}
@@ -41,13 +41,6 @@ is_word Half = false
 is_word Byte = false
 is_word Part = false
 
--- the bytes whose multiple a place in memory has to be
-abbrev pub alignment : Size → ℕ
-alignment Word = 4
-alignment Half = 2
-alignment Byte = 1
-alignment Part = 1
-
 -- what is read of memory at a place; a part of a word is read as its word
 abbrev pub memory_load : List ℕ → ℕ → Size → ℕ
 memory_load memory a Byte = slice_index memory a
@@ -73,14 +66,6 @@ system_word b = bit 7 (serial_requests b.serial) + b.system * 2 ^ 16
 -- the requests to IP2 and to IP3
 abbrev pub lines : BusState → Bool × Bool
 lines b = (serial_requests b.serial && is_enabled b.system, clock_requests b.clock)
-
--- whether one of the devices requests an interrupt
-abbrev pub devices_ask : SerialState → ℕ → ClockState → Bool
-devices_ask serial system clock = (serial_requests serial && is_enabled system) || clock_requests clock
-
--- whether there is a request
-abbrev pub asks : BusState → Bool
-asks b = devices_ask b.serial b.system b.clock
 
 -- whether a place is that of one of the clock's 64 registers
 abbrev pub is_clock : ℕ → Bool
@@ -122,8 +107,8 @@ load b a size =
     if is_word size then register_load b a else nothing_answers b
 
 -- a store that leaves this bus
-abbrev pub takes : BusState → Result (Unit {0}) BusError × BusState
-takes b = (Ok tt, b)
+abbrev pub store_taken : BusState → Result (Unit {0}) BusError × BusState
+store_taken b = (Ok tt, b)
 
 -- a store that nothing takes
 abbrev pub nothing_takes : BusState → Result (Unit {0}) BusError × BusState
@@ -132,19 +117,19 @@ nothing_takes b = (Err (record {}), b)
 -- a store to a register
 abbrev pub register_store : BusState → ℕ → ℕ → Result (Unit {0}) BusError × BusState
 register_store b a v =
-    if a == 0x1FE00000 then takes (with_serial b (with_control b.serial v)) else
-    if a == 0x1FE00008 then takes b else
-    if a == 0x1FE00010 then takes (with_serial b (with_enables b.serial v)) else
-    if a == 0x1FE00018 then takes (with_serial b (transmitted b.serial (bits v 0 8))) else
-    if a == 0x1FE80028 then takes (with_clock b (with_rate b.clock v)) else
-    if a == 0x1FE8002C then takes (with_clock b (with_enable b.clock v)) else
-    if a == 0x1FF00000 then takes (record b { system = bits v 16 8 }) else
-    if is_clock a then takes b else nothing_takes b
+    if a == 0x1FE00000 then store_taken (with_serial b (with_control b.serial v)) else
+    if a == 0x1FE00008 then store_taken b else
+    if a == 0x1FE00010 then store_taken (with_serial b (with_enables b.serial v)) else
+    if a == 0x1FE00018 then store_taken (with_serial b (transmitted b.serial (bits v 0 8))) else
+    if a == 0x1FE80028 then store_taken (with_clock b (with_rate b.clock v)) else
+    if a == 0x1FE8002C then store_taken (with_clock b (with_enable b.clock v)) else
+    if a == 0x1FF00000 then store_taken (record b { system = bits v 16 8 }) else
+    if is_clock a then store_taken b else nothing_takes b
 
 -- a store: whether something took it, and the bus after it
 abbrev pub store : BusState → ℕ → Size → ℕ → Result (Unit {0}) BusError × BusState
 store b a size v =
-    if is_memory a then takes (record b { memory = memory_store b.memory a size v }) else
+    if is_memory a then store_taken (record b { memory = memory_store b.memory a size v }) else
     if is_word size then register_store b a v else nothing_takes b
 
 -- the bus some ticks later

@@ -2,6 +2,5 @@ pub mod Words
 pub mod Serial
 pub mod Clock
 pub mod Bus
-pub mod Lending
-pub mod Known
-pub mod Worked
+pub mod Inner
+pub mod Rows

@@ -24,16 +24,16 @@ abbrev pub serial_at_start : SerialState
 serial_at_start = record { receiver_interrupts = false; master_scan = false; enables = 0; silo = []; overrun = false; waiting = None }
 
 -- the lowest enabled line, or 0
-abbrev pub line_of : ℕ → ℕ
-line_of enables =
+abbrev pub lowest_line : ℕ → ℕ
+lowest_line enables =
     if is_set enables 0 then 0 else
     if is_set enables 1 then 1 else
     if is_set enables 2 then 2 else
     if is_set enables 3 then 3 else 0
 
 -- whether a character can be sent
-abbrev pub is_ready : SerialState → Bool
-is_ready d = d.master_scan && not (d.enables == 0)
+abbrev pub can_send : SerialState → Bool
+can_send d = d.master_scan && not (d.enables == 0)
 
 -- whether a received character can be read
 abbrev pub has_received : SerialState → Bool
@@ -45,7 +45,7 @@ serial_requests d = has_received d && d.receiver_interrupts
 
 -- what the control register reads
 abbrev pub control_word : SerialState → ℕ
-control_word d = bit 15 (is_ready d) + line_of d.enables * 2 ^ 8 + bit 7 (has_received d) + bit 6 d.receiver_interrupts + bit 5 d.master_scan
+control_word d = bit 15 (can_send d) + lowest_line d.enables * 2 ^ 8 + bit 7 (has_received d) + bit 6 d.receiver_interrupts + bit 5 d.master_scan
 
 -- the lines after a write of the control register
 abbrev pub with_control : SerialState → ℕ → SerialState
@@ -77,7 +77,7 @@ received d line byte =
 
 -- a character is sent, where one can be; it replaces one that still waits to leave
 abbrev pub transmitted : SerialState → ℕ → SerialState
-transmitted d byte = if is_ready d then record d { waiting = Some (record { line = line_of d.enables; byte = byte }) } else d
+transmitted d byte = if can_send d then record d { waiting = Some (record { line = lowest_line d.enables; byte = byte }) } else d
 
 -- a line and a byte
 abbrev pub as_pair : Option Character → Option (ℕ × ℕ)

@@ -1,6 +1,7 @@
 //! Accesses of memory by their size.
 ghost use Rattle.std.specs.Prelude.{◌≡◌, ◌%◌, ◌<◌};
-ghost use Rattle.ds_dev.specs.Bus.{alignment, memory_load, memory_store};
+ghost use Rattle.ds_dev.specs.Bus.{memory_load, memory_store};
+ghost use Rattle.ds_dev.specs.Inner.Bus.{alignment};
 
 use ds_isa::Size;
 use ds_mem::{Memory, SIZE};

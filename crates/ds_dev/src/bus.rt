@@ -3,15 +3,16 @@ ghost use Rattle.std.specs.Prelude.{◌≡◌, ◌+◌, ◌*◌, ◌%◌, ◌^�
 ghost use Rattle.std.specs.Borrow.{sem};
 ghost use Rattle.ds_isa.specs.Instruction.{instruction_of};
 ghost use Rattle.ds_isa.specs.declared.instr.Size.TheVariants.{Word};
-ghost use Rattle.ds_operations.specs.Does.{MeansAs};
+ghost use Rattle.ds_operations.specs.Inner.Does.{MeansAs};
 ghost use Rattle.ds_word.specs.Word.{bits};
 ghost use Rattle.ds_word.specs.Merge.{with_bits};
 ghost use Rattle.ds_word.specs.Bytes.{word_at, with_word};
-ghost use Rattle.ds_pages.specs.Page.{HoldsWords};
-ghost use Rattle.ds_dev.specs.Bus.{at_start, alignment, load, store, register_load, register_store, after_ticks, lines, devices_ask, asks, with_serial};
+ghost use Rattle.ds_pages.specs.Inner.Page.{HoldsWords};
+ghost use Rattle.ds_dev.specs.Bus.{at_start, load, store, register_load, register_store, after_ticks, lines, with_serial};
+ghost use Rattle.ds_dev.specs.Inner.Bus.{alignment, devices_ask, asks};
 ghost use Rattle.ds_dev.specs.Serial.{received, sent};
-ghost use Rattle.ds_dev.specs.Lending.{LendsMemory};
-ghost use Rattle.ds_pages.specs.Page.{HoldsWords};
+ghost use Rattle.ds_dev.specs.Inner.Lending.{LendsMemory};
+ghost use Rattle.ds_pages.specs.Inner.Page.{HoldsWords};
 
 use crate::access;
 use crate::clock::{self, Clock};
@@ -43,7 +44,8 @@ pub struct Bus {
 
 impl Model for Bus {
     ghost use Rattle.std.specs.Prelude.{◌≡◌};
-    ghost use Rattle.ds_dev.specs.Bus.{BusState, devices_ask};
+    ghost use Rattle.ds_dev.specs.Bus.{BusState};
+    ghost use Rattle.ds_dev.specs.Inner.Bus.{devices_ask};
 
     ghost Value = { BusState };
 

@@ -3,9 +3,10 @@ ghost use Rattle.std.specs.Prelude.{◌≡◌, ◌%◌, ◌*◌, ◌/◌, ◌<�
 ghost use Rattle.std.specs.Borrow.{sem};
 ghost use Rattle.ds_word.specs.Merge.{with_bits};
 ghost use Rattle.ds_word.specs.Bytes.{word_at, with_word};
-ghost use Rattle.ds_pages.specs.Page.{HoldsWords};
-ghost use Rattle.ds_dev.specs.Bus.{alignment, memory_store};
-ghost use Rattle.ds_dev.specs.Lending.{LendsBytes};
+ghost use Rattle.ds_pages.specs.Inner.Page.{HoldsWords};
+ghost use Rattle.ds_dev.specs.Bus.{memory_store};
+ghost use Rattle.ds_dev.specs.Inner.Bus.{alignment};
+ghost use Rattle.ds_dev.specs.Inner.Lending.{LendsBytes};
 
 use crate::access;
 use crate::pages::{self, Pages};
@@ -38,7 +39,7 @@ pub(crate) struct KnownMemory {
 
 impl Model for KnownMemory {
     ghost use Rattle.std.specs.Prelude.{◌≡◌, List, ℕ, false};
-    ghost use Rattle.ds_dev.specs.Known.{IsKnown};
+    ghost use Rattle.ds_dev.specs.Inner.Known.{IsKnown};
 
     ghost Value = { List ℕ };
 

@@ -1,7 +1,7 @@
 //! Words that were decoded before.
 ghost use Rattle.std.specs.Prelude.{◌≡◌, ◌<◌, slice_get, IfSome};
 ghost use Rattle.ds_isa.specs.Instruction.{instruction_of};
-ghost use Rattle.ds_operations.specs.Does.{MeansAs};
+ghost use Rattle.ds_operations.specs.Inner.Does.{MeansAs};
 
 use ds_isa::{Instr, decode};
 use ds_operations::Operation;

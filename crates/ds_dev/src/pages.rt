@@ -1,6 +1,6 @@
 //! Room for pages of known operations.
 ghost use Rattle.std.specs.Prelude.{◌≡◌, ◌<◌, Some, None, IfOk, replicate, slice_index_or, slice_set};
-ghost use Rattle.ds_dev.specs.Known.{room_of, with_room};
+ghost use Rattle.ds_dev.specs.Inner.Known.{room_of, with_room};
 
 use ds_mem::{FRAMES, OutOfMemory};
 use ds_pages::Page;
@@ -16,7 +16,7 @@ pub struct Pages {
 
 impl Model for Pages {
     ghost use Rattle.std.specs.Prelude.{◌≡◌, List, vec_len};
-    ghost use Rattle.ds_dev.specs.Known.{Room};
+    ghost use Rattle.ds_dev.specs.Inner.Known.{Room};
 
     ghost Value = { List Room };
 

@@ -10,7 +10,7 @@
 //! | 1FE00018, written | character to send | 7 to 0; reads 0 |
 ghost use Rattle.std.specs.Prelude.{◌≡◌};
 ghost use Rattle.ds_word.specs.Word.{bits};
-ghost use Rattle.ds_dev.specs.Serial.{serial_at_start, line_of, is_ready, has_received, serial_requests, control_word, with_control, with_enables, read_silo, received, transmitted, sent};
+ghost use Rattle.ds_dev.specs.Serial.{serial_at_start, lowest_line, can_send, has_received, serial_requests, control_word, with_control, with_enables, read_silo, received, transmitted, sent};
 
 use arrayvec::ArrayVec;
 use ds_word::bit;
@@ -88,7 +88,7 @@ impl SerialLines {
     pub(crate) fn control(&self) -> u32
         ensures { result ≡ control_word self.now }
     {
-        bit(15, self.is_ready())
+        bit(15, self.can_send())
             + self.line() * 0x100
             + bit(7, !self.silo.is_empty())
             + bit(6, self.receiver_interrupts)
@@ -160,7 +160,7 @@ impl SerialLines {
     pub(crate) fn transmit(&mut self, v: u32)
         ensures { self.new ≡ transmitted self.old (bits v 0 8) }
     {
-        if self.is_ready() {
+        if self.can_send() {
             self.waiting = Some(Character {
                 line: self.line() as u8,
                 byte: (v % 256) as u8,
@@ -184,8 +184,8 @@ impl SerialLines {
 
     /// Whether a character can be sent.
     #[inline(always)]
-    fn is_ready(&self) -> bool
-        ensures { result ≡ is_ready self.now }
+    fn can_send(&self) -> bool
+        ensures { result ≡ can_send self.now }
     {
         self.master_scan && self.enables != 0
     }
@@ -193,7 +193,7 @@ impl SerialLines {
     /// The line that a character is sent on: the lowest that is enabled.
     #[inline(always)]
     fn line(&self) -> u32
-        ensures value { result ≡ line_of self.now.enables }
+        ensures value { result ≡ lowest_line self.now.enables }
     {
         if self.enables & 1 == 1 {
             0

@@ -12,21 +12,25 @@ use Rattle.ds_policy.specs.declared.events.fault.EventsFault.TheVariants as even
 use Rattle.ds_log.specs.Sent.{AppendsPart}
 use Rattle.ds_words.specs.declared.bare_view.BareView.{BareView}
 use Rattle.ds_bare.specs.Faults.{is_cut, may_start}
-use Rattle.ds_bare.specs.Keys.{IsFaultOf, keys_in}
+use Rattle.ds_bare.specs.Keys.{keys_in}
+use Rattle.ds_bare.specs.Inner.Keys.{IsFaultOf}
 use Rattle.ds_bare.specs.Machine.{machine_at_start}
-use Rattle.ds_bare.specs.Runs.{IsCutBetween, bare_text, told_by}
+use Rattle.ds_bare.specs.Runs.{IsCutBetween, bare_text, steps_told}
 use Rattle.ds_bare.specs.declared.fault.BareFault.{BareFault}
 use Rattle.ds_bare.specs.declared.fault.BareFault.TheVariants as bare
-use Rattle.ds_station.specs.Faults.{of_events}
+use Rattle.ds_station.specs.Inner.Faults.{of_events}
 use Rattle.ds_station.specs.declared.fault.Fault.TheVariants as fault
 use Rattle.ds_station.proofs.Headlines.{keeps_same}
 use Rattle.ds_drive.specs.declared.failure.Failure.{Failure}
 use Rattle.ds_drive.specs.declared.failure.Failure.TheVariants as failure
-use Rattle.ds_drive.specs.BareRuns.{BareFailsBy, CutsBare, HasBareFaults, ShortBare, of_bare}
-use Rattle.ds_drive.specs.Checked.{IsInput, IsUnreadInput}
+use Rattle.ds_drive.specs.BareRuns.{BareFailsBy, CutsBare, HasBareFaults, ShortBare}
+use Rattle.ds_drive.specs.Inner.BareRuns.{of_bare}
+use Rattle.ds_drive.specs.Checked.{IsInput}
+use Rattle.ds_drive.specs.Inner.Checked.{IsUnreadInput}
 use Rattle.ds_drive.specs.Done.{IsCutShort, IsStopped, stream}
-use Rattle.ds_drive.specs.Listening.{Listener, Tells, TellsSome}
-use Rattle.ds_drive.specs.Failures.{IsUnread, failure_number}
+use Rattle.ds_drive.specs.Listening.{Listener, IsToldText, TellsSome}
+use Rattle.ds_drive.specs.Failures.{failure_number}
+use Rattle.ds_drive.specs.Inner.Failures.{IsUnread}
 use Rattle.ds_drive.specs.Statuses.{fault_status}
 use Rattle.ds_drive.specs.Told.{failure_line, listed_faults}
 use Rattle.ds_words.specs.declared.words.BareRequest.{BareRequest}
@@ -79,7 +83,7 @@ module _ (holds : List ℕ → List ℕ → Type 0) (lacks : List ℕ → Type 0
 short_part : (image : List ℕ) (random : ℕ) (view : BareView) (most : ℕ) (keys : List Character) (old new : Option (List ℕ)) → IsCutBetween old new view most (machine_at_start image random keys) → AppendsPart old new (bare_text view image random most keys)
 unfolding bare_text
 short_part image random view most keys old new cut =
-    record { part = told_by view cut.done (machine_at_start image random keys); rest = cut.rest; whole = cut.goes_on; appends = cut.written }
+    record { part = steps_told view cut.done (machine_at_start image random keys); rest = cut.rest; whole = cut.goes_on; appends = cut.written }
 
 short_cuts : (holds : List ℕ → List ℕ → Type 0) (request : BareRequest) (old new : Option (List ℕ)) → ShortBare holds request old new → CutsBare holds request old new
 short_cuts holds request old new s = record {
@@ -109,7 +113,7 @@ bare_cut words holds lacks request f old new asks none = absurd none
 -- What the program says of it.
 module _ (words : List Text) (holds : List ℕ → List ℕ → Type 0) (lacks : List ℕ → Type 0) (status : ℕ) (old new : Option (List ℕ)) (err : Listener) where
   pub bare_stopped : (request : BareRequest) (f : Failure) → fault_status (failure_number f) ≡ status → AsksForBare words request → BareFailsBy f holds lacks request old new
-      → Tells err (failure_line f) → IsStopped status words holds lacks (stream old new) err
+      → IsToldText err (failure_line f) → IsStopped status words holds lacks (stream old new) err
   bare_stopped request f has asks fails told = inr (inr (inr (inr (inl (request, asks, inl (record { failure = f; has = has; so = fails; told = told }))))))
 
   pub bare_faulty : (request : BareRequest) (text : List ℕ) (faults : List SourceFault) → status ≡ 2 → AsksForBare words request → HasBareFaults holds request text faults → Keeps old new

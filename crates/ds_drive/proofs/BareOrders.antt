@@ -9,14 +9,15 @@ use Rattle.ds_policy.specs.declared.events.fault.EventsFault.TheVariants as even
 use Rattle.ds_bare.specs.Keys.{keys_in}
 use Rattle.ds_bare.specs.declared.fault.BareFault.{BareFault}
 use Rattle.ds_bare.specs.declared.fault.BareFault.TheVariants as bare
-use Rattle.ds_station.specs.Faults.{of_events}
+use Rattle.ds_station.specs.Inner.Faults.{of_events}
 use Rattle.ds_station.specs.declared.fault.Fault.TheVariants as fault
 use Rattle.ds_drive.specs.declared.failure.Failure.{Failure}
 use Rattle.ds_drive.specs.declared.failure.Failure.TheVariants as failure
-use Rattle.ds_drive.specs.BareRuns.{of_bare}
-use Rattle.ds_drive.specs.BareOrder.{IsRefusedAfter}
-use Rattle.ds_drive.specs.Checked.{IsInput, IsUnreadInput}
-use Rattle.ds_drive.specs.Failures.{IsUnread}
+use Rattle.ds_drive.specs.Inner.BareRuns.{of_bare}
+use Rattle.ds_drive.specs.Inner.BareOrder.{IsRefusedAfter}
+use Rattle.ds_drive.specs.Checked.{IsInput}
+use Rattle.ds_drive.specs.Inner.Checked.{IsUnreadInput}
+use Rattle.ds_drive.specs.Inner.Failures.{IsUnread}
 use Rattle.ds_words.specs.declared.words.BareRequest.{BareRequest}
 
 module _ (holds : List ℕ → List ℕ → Type 0) (request : BareRequest) where

@@ -3,7 +3,7 @@ use Rattle.std.proofs.Common.{◌≡◌, ◌∙◌, ◌⊎◌, inl, inr, ℕ, �
 use Rattle.std.specs.Prelude.{Option, Some, None}
 use Rattle.clap.specs.Words.{Text}
 use Rattle.ds_log.proofs.Sends.{appends_both}
-use Rattle.ds_pagemap.specs.Text.{text_of}
+use Rattle.ds_pagemap.specs.Text.{state_text}
 use Rattle.ds_refinement.specs.Held.{Held}
 use Rattle.ds_station.specs.declared.outcome.Unended.{Unended}
 use Rattle.ds_station.specs.declared.pieces.Extent.TheVariants.{Whole}
@@ -16,8 +16,9 @@ use Rattle.ds_drive.specs.declared.outcome.Came.TheVariants as came
 use Rattle.ds_drive.specs.declared.outcome.Outcome.{Outcome}
 use Rattle.ds_drive.specs.Done.{IsCutShort, IsDone, IsTooMuch, IsUnended, Stream, stream}
 use Rattle.ds_drive.specs.Failures.{CutsFiles}
-use Rattle.ds_drive.specs.Listening.{Listener, Tells}
-use Rattle.ds_drive.specs.Outcomes.{came_of, came_status, end_told, unmet, where_asked}
+use Rattle.ds_drive.specs.Listening.{Listener, IsToldText}
+use Rattle.ds_drive.specs.Outcomes.{came_of, end_told, unmet, where_asked}
+use Rattle.ds_drive.specs.Inner.Outcomes.{came_status}
 use Rattle.ds_drive.specs.Ran.{HasLeftFiles, HasRunFiles, HasTracedFiles}
 use Rattle.ds_drive.specs.Windows.{windows_text}
 use Rattle.ds_drive.proofs.Heard.{whole_part}
@@ -91,7 +92,7 @@ module _ (words : List Text) (holds : List ℕ → List ℕ → Type 0) (o : Out
             record {
               last = l.last;
               prefix = record { reached = l.reached; whole = l.whole };
-              written = whole_part old new _ (appends_both old r.so.between new (text_of l.last) (windows_text l.last (windows_in request.extras.memory)) l.written l.followed.memory);
+              written = whole_part old new _ (appends_both old r.so.between new (state_text l.last) (windows_text l.last (windows_in request.extras.memory)) l.written l.followed.memory);
             },
           );
         }
@@ -111,7 +112,7 @@ module _ (words : List Text) (holds : List ℕ → List ℕ → Type 0) (o : Out
         | inr r ↦ absurd (let no : came.Done ≡ came.TooMuch = sym (done_by o.came zero) ∙ left_is_much r in cc)
       ]
 
-      module _ (err : Listener) (told : Tells err o.told.items) where
+      module _ (err : Listener) (told : IsToldText err o.told.items) where
         pub run_done : (input : Stream) → came_status o.came ≡ 0 → IsDone words holds input (stream old new) err
         run_done input zero = elim came_to [
           | inl r ↦ inr (inl (request, asks, record { outcome = o; is = done_by o.came zero; so = r; told = told }))
@@ -140,7 +141,7 @@ module _ (words : List Text) (holds : List ℕ → List ℕ → Type 0) (o : Out
         let e = r.so.so.traces.2 in
         e.followed.told ∙ (ap (λ (s : List ℕ). s ++ end_told Whole e.station (unmet request.extras e.by.last)) (no_summary request.extras.summary _ none) ∙ nothing_unmet (unmet request.extras e.by.last) e.station (sym (done_by o.came zero) ∙ e.followed.came))
 
-    module _ (err : Listener) (told : Tells err o.told.items) where
+    module _ (err : Listener) (told : IsToldText err o.told.items) where
       pub trace_done : (input : Stream) → came_status o.came ≡ 0 → IsDone words holds input (stream old new) err
       trace_done input zero = inr (inr (inr (inr (inr (inl (request, asks, record { outcome = o; is = done_by o.came zero; so = r; told = told }))))))
 

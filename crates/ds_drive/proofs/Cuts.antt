@@ -4,7 +4,7 @@ use Rattle.std.specs.Prelude.{Option, Result}
 use Rattle.std.specs.Io.KnownBytes.{Keeps}
 use Rattle.clap.specs.Words.{Text}
 use Rattle.ds_pagemap.specs.Machine.{State}
-use Rattle.ds_pagemap.specs.Text.{text_of}
+use Rattle.ds_pagemap.specs.Text.{state_text}
 use Rattle.ds_pagemap.specs.Inputs.{Refusal, inputs}
 use Rattle.ds_station.specs.Headline.{Begins, EndsBy, WritesPart, WritesPrefix}
 use Rattle.ds_station.specs.declared.fault.Fault.{Fault}
@@ -20,7 +20,8 @@ use Rattle.ds_words.specs.declared.words.RunRequest.{RunRequest}
 use Rattle.ds_words.specs.Windows.{windows_in}
 use Rattle.ds_drive.specs.Demo.{demo_inputs}
 use Rattle.ds_drive.specs.Done.{IsCutShort}
-use Rattle.ds_drive.specs.Failures.{CutsFiles, EndsThenBy, FilesStop, IsUnread, LacksProcess, OfHeld, StopsBy, WritesPartThen}
+use Rattle.ds_drive.specs.Failures.{CutsFiles, EndsThenBy, FilesStop, LacksProcess, OfHeld, StopsBy, WritesPartThen}
+use Rattle.ds_drive.specs.Inner.Failures.{IsUnread}
 use Rattle.ds_drive.proofs.Ending.{part_then}
 use Rattle.ds_drive.specs.Checked.{ChecksBy}
 use Rattle.ds_drive.specs.Listed.{FailsBy}
@@ -31,7 +32,7 @@ part_of_prefix : (old new : Option (List ℕ)) (n : ℕ) (first : State) → Wri
 part_of_prefix old new n first w = record {
   last = w.last;
   prefix = w.prefix;
-  written = record { part = text_of w.last; rest = []; whole = append-nil (text_of w.last); appends = w.written };
+  written = record { part = state_text w.last; rest = []; whole = append-nil (state_text w.last); appends = w.written };
 }
 
 -- whatever the fault, nothing is written, or a front of the text of a run

@@ -6,13 +6,14 @@ use Rattle.clap.specs.Words.{Text}
 use Rattle.ds_log.proofs.Sends.{part_before}
 use Rattle.ds_policy.specs.Value.{PolicyValue}
 use Rattle.ds_pagemap.specs.Inputs.{Sources}
-use Rattle.ds_station.specs.Faults.{number_of}
+use Rattle.ds_station.specs.Faults.{fault_number}
 use Rattle.ds_station.specs.Headline.{Refuses}
 use Rattle.ds_station.specs.declared.fault.Fault.{Fault}
 use Rattle.ds_station.specs.declared.fault.Fault.TheVariants as fault
 use Rattle.ds_station.proofs.Headlines.{keeps_same}
 use Rattle.ds_debug.specs.Inputs.{RunInputs}
-use Rattle.ds_debug.specs.Serving.{DebugEndsBy, Debugs, DebugsPart, IsLate, Pipes, pipes}
+use Rattle.ds_debug.specs.Serving.{Debugs, DebugsPart, IsLate, Pipes, pipes}
+use Rattle.ds_debug.specs.Inner.Serving.{DebugEndsBy}
 use Rattle.ds_debug.specs.Streams.{mark_text}
 use Rattle.ds_debug.specs.declared.serving.Ending.{Ending}
 use Rattle.ds_debug.specs.declared.serving.Ending.TheVariants.{Over, Unread}
@@ -22,8 +23,9 @@ use Rattle.ds_drive.specs.declared.failure.Failure.{Failure}
 use Rattle.ds_drive.specs.declared.failure.Failure.TheVariants as failure
 use Rattle.ds_drive.specs.Debugged.{CutsDebug, DebugStopsBy, HasDebugged, OfRunInputs}
 use Rattle.ds_drive.specs.Done.{IsCutShort, IsDone, IsStopped, Stream, stream}
-use Rattle.ds_drive.specs.Failures.{HoldsInputs, IsUnreadRun, failure_number}
-use Rattle.ds_drive.specs.Listening.{Listener, Tells}
+use Rattle.ds_drive.specs.Failures.{HoldsInputs, failure_number}
+use Rattle.ds_drive.specs.Inner.Failures.{IsUnreadRun}
+use Rattle.ds_drive.specs.Listening.{Listener, IsToldText}
 use Rattle.ds_drive.specs.Statuses.{fault_status}
 use Rattle.ds_drive.specs.Told.{failure_line}
 use Rattle.ds_drive.proofs.Heard.{whole_part}
@@ -112,13 +114,13 @@ module _ (words : List Text) (holds : List ℕ → List ℕ → Type 0) (request
     ),
   ))))))))
 
-  pub debug_stopped : (lacks : List ℕ → Type 0) (f : Failure) (status : ℕ) (err : Listener) → fault_status (failure_number f) ≡ status → DebugStopsBy f holds lacks request old new → Tells err (failure_line f)
+  pub debug_stopped : (lacks : List ℕ → Type 0) (f : Failure) (status : ℕ) (err : Listener) → fault_status (failure_number f) ≡ status → DebugStopsBy f holds lacks request old new → IsToldText err (failure_line f)
       → IsStopped status words holds lacks (stream old new) err
   debug_stopped lacks f status err has stops told =
       inr (inr (inr (inr (inr (inr (inl (request, asks, inl (record { failure = f; has = has; so = stops; told = told }))))))))
 
   pub unheard_stopped : (lacks : List ℕ → Type 0) (unread left : Option (List ℕ)) (status : ℕ) (err : Listener) → status ≡ 3 → HasDebugged Unread holds request (pipes unread left old new)
-      → Tells err (codes "dsmon: standard input could not be read\n") → IsStopped status words holds lacks (stream old new) err
+      → IsToldText err (codes "dsmon: standard input could not be read\n") → IsStopped status words holds lacks (stream old new) err
   unheard_stopped lacks unread left status err has so told =
       inr (inr (inr (inr (inr (inr (inl (request, asks, inr (record { has = has; unread = unread; left = left; so = so; told = told }))))))))
 
@@ -127,7 +129,7 @@ module _ (words : List Text) (holds : List ℕ → List ℕ → Type 0) (request
   debug_done input err d = inr (inr (inr (inr (inr (inr (inl (request, asks, d)))))))
 
 -- a fault of a run that has begun has status 3
-late_three : (f : Fault) → IsLate f → fault_status (number_of f) ≡ 2 → ⊥
+late_three : (f : Fault) → IsLate f → fault_status (fault_number f) ≡ 2 → ⊥
 late_three fault.Stuck late is = absurd cc
 late_three fault.Failed late is = absurd cc
 late_three fault.WriteFault late is = absurd cc

@@ -3,29 +3,31 @@ use Rattle.std.proofs.Common.{◌≡◌, ◌∙◌, ◌⊎◌, inl, inr, ℕ, Bo
 use Rattle.std.specs.Prelude.{Option, Some, None, Result, is_some}
 use Rattle.std.specs.Io.KnownBytes.{Appends}
 use Rattle.ds_log.specs.Sent.{AppendsPart}
-use Rattle.ds_log.proofs.Sends.{appends_none, part_before, part_behind}
+use Rattle.ds_log.proofs.Sends.{appends_none, part_before, part_after}
 use Rattle.ds_pagemap.specs.Inputs.{Refusal}
 use Rattle.ds_pagemap.specs.Machine.{State}
-use Rattle.ds_pagemap.specs.Text.{text_of}
+use Rattle.ds_pagemap.specs.Text.{state_text}
 use Rattle.ds_refinement.specs.Held.{Held}
 use Rattle.ds_refinement.specs.Stands.{Stands}
 use Rattle.ds_station.specs.Headline.{Along, Begins, EndsBy, Followed, Loaded, WritesPart, WritesReally}
-use Rattle.ds_station.specs.Outcome.{WritesBy}
-use Rattle.ds_station.specs.Pieces.{ComesReally, WritesTooMuch, WritesUpTo, WritesWithin}
+use Rattle.ds_station.specs.Inner.Outcome.{WritesBy}
+use Rattle.ds_station.specs.Pieces.{ComesReally}
+use Rattle.ds_station.specs.Inner.Pieces.{WritesTooMuch, WritesUpTo, WritesWithin}
 use Rattle.ds_station.specs.declared.fault.Fault.{Fault}
 use Rattle.ds_station.specs.declared.fault.Fault.TheVariants as fault
 use Rattle.ds_station.specs.declared.pieces.Extent.{Extent}
 use Rattle.ds_station.specs.declared.pieces.Extent.TheVariants.{Whole, TooMuch}
 use Rattle.ds_station.proofs.Headlines.{ended_whole, text_alike}
 use Rattle.ds_trace.specs.Accounts.{account_text}
-use Rattle.ds_trace.specs.Handed.{IsLate}
-use Rattle.ds_trace.specs.Summed.{WritesSummed}
+use Rattle.ds_trace.specs.Inner.Handed.{IsLate}
+use Rattle.ds_trace.specs.Inner.Summed.{WritesSummed}
 use Rattle.ds_words.specs.Windows.{windows_in}
 use Rattle.ds_words.specs.declared.words.Extras.{Extras}
 use Rattle.ds_words.specs.declared.words.RunRequest.{RunRequest}
 use Rattle.ds_drive.specs.Failures.{EndsThenBy, WritesPartThen, asks_more}
 use Rattle.ds_drive.specs.Outcomes.{IsFollowed, has_window, left, wants_more, where_asked}
-use Rattle.ds_drive.specs.Ran.{EndsThen, IsEnded, IsLeft, IsWithin, run_summary, told_by, writing}
+use Rattle.ds_drive.specs.Ran.{EndsThen, IsLeft, IsWithin, run_summary, run_told, writing}
+use Rattle.ds_drive.specs.Inner.Ran.{IsEnded}
 use Rattle.ds_drive.specs.Windows.{windows_text}
 use Rattle.ds_drive.specs.declared.outcome.Outcome.{Outcome}
 
@@ -58,21 +60,21 @@ module _ (request : RunRequest) where
 
   -- where no summary is wanted, it has nothing
   pub no_summary : (choices : List Bool) (h : Held) (first : State) → request.extras.summary ≡ false → [] ≡ run_summary request choices h first
-  no_summary choices h first none = ap (λ (b : Bool). where_asked b (told_by request.most request.run.most_time choices h first)) (sym none)
+  no_summary choices h first none = ap (λ (b : Bool). where_asked b (run_told request.most request.run.most_time choices h first)) (sym none)
 
   -- where one is, it is what is told by what was counted
-  pub counted_summary : (choices : List Bool) (h : Held) (first : State) (text : List ℕ) → request.most ≡ None → request.extras.summary ≡ true → text ≡ told_by None request.run.most_time choices h first → text ≡ run_summary request choices h first
+  pub counted_summary : (choices : List Bool) (h : Held) (first : State) (text : List ℕ) → request.most ≡ None → request.extras.summary ≡ true → text ≡ run_told None request.run.most_time choices h first → text ≡ run_summary request choices h first
   counted_summary choices h first text unbound wanted told =
       told
-      ∙ (ap (λ (x : Option ℕ). told_by x request.run.most_time choices h first) (sym unbound)
-      ∙ ap (λ (b : Bool). where_asked b (told_by request.most request.run.most_time choices h first)) (sym wanted))
+      ∙ (ap (λ (x : Option ℕ). run_told x request.run.most_time choices h first) (sym unbound)
+      ∙ ap (λ (b : Bool). where_asked b (run_told request.most request.run.most_time choices h first)) (sym wanted))
 
   -- a front of the text of a run is one of that and of what follows
   pub part_then : (old new : Option (List ℕ)) (first : State) → WritesPart old new request.run.most_time first → WritesPartThen (windows_in request.extras.memory) old new request.run.most_time first
   part_then old new first w = record {
     last = w.last;
     prefix = w.prefix;
-    written = part_before old new (text_of w.last) (windows_text w.last (windows_in request.extras.memory)) w.written;
+    written = part_before old new (state_text w.last) (windows_text w.last (windows_in request.extras.memory)) w.written;
   }
 
   -- a run ended by a fault
@@ -93,7 +95,7 @@ module _ (request : RunRequest) where
     ended_part first w = record {
       last = w.last;
       prefix = ended_whole request.run.most_time first w.last w.ends;
-      written = part_behind old between new (text_of w.last) (windows_text w.last (windows_in request.extras.memory)) w.written (follows w.last w.stands);
+      written = part_after old between new (state_text w.last) (windows_text w.last (windows_in request.extras.memory)) w.written (follows w.last w.stands);
     }
 
     up_to_part : (extent : Extent) (most : ℕ) (first : State) → WritesUpTo extent most h old between request.run.most_time first → WritesPartThen (windows_in request.extras.memory) old new request.run.most_time first
@@ -101,7 +103,7 @@ module _ (request : RunRequest) where
     up_to_part TooMuch most first w = record {
       last = w.last;
       prefix = record { reached = w.reached; whole = w.whole };
-      written = part_behind old between new (text_of w.last) (windows_text w.last (windows_in request.extras.memory)) w.written (follows w.last w.stands);
+      written = part_after old between new (state_text w.last) (windows_text w.last (windows_in request.extras.memory)) w.written (follows w.last w.stands);
     }
 
     -- so after a run that has ended
@@ -147,7 +149,7 @@ module _ (request : RunRequest) where
     module _ (most : ℕ) (bound : request.most ≡ Some most) (summed : summary ≡ where_asked request.extras.summary (account_text request.run.most_time h)) (read : Result State Refusal) (begun : Result Loaded Refusal) where
       -- under a bound the summary is the account
       bounded_summary : (choices : List Bool) (first : State) → summary ≡ run_summary request choices h first
-      bounded_summary choices first = summed ∙ ap (λ (x : Option ℕ). where_asked request.extras.summary (told_by x request.run.most_time choices h first)) (sym bound)
+      bounded_summary choices first = summed ∙ ap (λ (x : Option ℕ). where_asked request.extras.summary (run_told x request.run.most_time choices h first)) (sym bound)
 
       real_within : (l : Loaded) (first : State) → WritesBy h old between request.run.most_time first → ComesReally Whole request.run.most_time most request.run.random h l
           → WritesReally Followed old between request.run.most_time request.run.random l

@@ -3,7 +3,8 @@ use Rattle.std.proofs.Common.{◌≡◌, ◌⊎◌, inl, inr, ℕ, List, refl, s
 use Rattle.std.specs.Prelude.{Option, Result}
 use Rattle.std.specs.Io.KnownBytes.{Keeps}
 use Rattle.clap.specs.Words.{Text}
-use Rattle.ds_explain.specs.Explained.{ExplainEndsBy, WritesExplained, WritesExplainedPart}
+use Rattle.ds_explain.specs.Explained.{WritesExplained, WritesExplainedPart}
+use Rattle.ds_explain.specs.Inner.Explained.{ExplainEndsBy}
 use Rattle.ds_explain.specs.declared.chosen.Chosen.{Chosen}
 use Rattle.ds_log_reasons.specs.Sentences.{Context}
 use Rattle.ds_pagemap.specs.Inputs.{Refusal, Sources}
@@ -18,9 +19,10 @@ use Rattle.ds_words.specs.Words.{AsksForExplain}
 use Rattle.ds_drive.specs.declared.failure.Failure.{Failure}
 use Rattle.ds_drive.specs.declared.failure.Failure.TheVariants as failure
 use Rattle.ds_drive.specs.Done.{IsCutShort, IsDone, IsStopped, Stream, stream}
-use Rattle.ds_drive.specs.ExplainedLogs.{CutsExplained, ExplainStopsBy, HasExplained, OfTexts, chosen_by, told_from}
-use Rattle.ds_drive.specs.Failures.{HoldsTexts, IsUnreadRun, failure_number}
-use Rattle.ds_drive.specs.Listening.{Listener, Tells}
+use Rattle.ds_drive.specs.ExplainedLogs.{CutsExplained, ExplainStopsBy, HasExplained, OfTexts, chosen_by, log_context}
+use Rattle.ds_drive.specs.Failures.{HoldsTexts, failure_number}
+use Rattle.ds_drive.specs.Inner.Failures.{IsUnreadRun}
+use Rattle.ds_drive.specs.Listening.{Listener, IsToldText}
 use Rattle.ds_drive.specs.Noted.{images_of}
 use Rattle.ds_drive.specs.Ran.{first_by}
 use Rattle.ds_drive.specs.Statuses.{fault_status}
@@ -53,8 +55,8 @@ module _ (holds : List ℕ → List ℕ → Type 0) (request : ExplainRequest) (
     input = j;
     held = read;
     so =
-        subst (λ (x : List ℕ). P (told_from text value t) (first_by value t x request.run)) f
-        (subst (λ (x : Sources). P (told_from text value t) (first_by value x i request.run)) e
+        subst (λ (x : List ℕ). P (log_context text value t) (first_by value t x request.run)) f
+        (subst (λ (x : Sources). P (log_context text value t) (first_by value x i request.run)) e
         (subst (λ (x : List (List ℕ)). P (lent_from text value t x) (first_by value s i request.run)) m
         (subst (λ (x : Sources). P (lent_from text value x images) (first_by value s i request.run)) e
         (subst (λ (x : List ℕ). P (lent_from x value s images) (first_by value s i request.run)) d so))));
@@ -101,7 +103,7 @@ module _ (words : List Text) (holds : List ℕ → List ℕ → Type 0) (request
   ]
 
   -- or stopped
-  pub explain_stopped : (lacks : List ℕ → Type 0) (f : Failure) (status : ℕ) (err : Listener) → fault_status (failure_number f) ≡ status → ExplainStopsBy f holds lacks request old new → Tells err (failure_line f)
+  pub explain_stopped : (lacks : List ℕ → Type 0) (f : Failure) (status : ℕ) (err : Listener) → fault_status (failure_number f) ≡ status → ExplainStopsBy f holds lacks request old new → IsToldText err (failure_line f)
       → IsStopped status words holds lacks (stream old new) err
   explain_stopped lacks f status err has stops told =
       inr (inr (inr (inr (inr (inr (inr (request, asks, record { failure = f; has = has; so = stops; told = told })))))))

@@ -20,7 +20,7 @@ use Rattle.ds_policy.proofs.PolicyRead.{policy_document}
 use Rattle.ds_policy.specs.declared.fault.PolicyFault.{PolicyFault}
 use Rattle.ds_policy.specs.declared.fault.PolicyFault.TheVariants as policy_fault
 use Rattle.ds_pagemap.specs.Inputs.{Sources, text_named}
-use Rattle.ds_station.specs.Faults.{of_policy}
+use Rattle.ds_station.specs.Inner.Faults.{of_policy}
 use Rattle.ds_station.specs.declared.fault.Fault.{Fault}
 use Rattle.ds_station.specs.declared.fault.Fault.TheVariants as fault
 use Rattle.ds_drive.specs.declared.refused.Refused.{Refused}
@@ -28,8 +28,9 @@ use Rattle.ds_drive.specs.declared.refused.FaultyInput.{FaultyInput}
 use Rattle.ds_drive.specs.declared.refused.FaultyPolicy.{FaultyPolicy}
 use Rattle.ds_drive.specs.declared.refused.FaultySource.{FaultySource}
 use Rattle.ds_drive.specs.declared.run.SourceText.{SourceText}
-use Rattle.ds_drive.specs.AtFault.{IsAtFault, IsCauseAt, IsCauseOf, IsInputAt, IsPlaceAt, IsReasonAt, IsSourceAt, cause_of, place_told, plain, texts_seen}
-use Rattle.ds_drive.specs.PolicyPlaces.{place_of}
+use Rattle.ds_drive.specs.AtFault.{IsAtFault, IsCauseAt, IsInputAt, IsPlaceAt, IsReasonAt, IsSourceAt, cause_of, place_told, plain}
+use Rattle.ds_drive.specs.Inner.AtFault.{IsCauseOf, texts_seen}
+use Rattle.ds_drive.specs.PolicyPlaces.{place_of_reason}
 use Rattle.ds_drive.proofs.HeldFiles.{same_value}
 
 -- a refusal of which nothing is told besides
@@ -100,8 +101,8 @@ cause_told f pages input (Some i) cause none is so = absurd none
 -- nor a place
 no_place_at : (f : Fault) (policy : List ℕ) (value : PolicyValue) → policy_of policy ≡ Ok value → IsPlaceAt f policy None
 no_place_at fault.BadToml policy value read = (ap not (sym (policy_document policy value read)), tt)
-no_place_at (fault.BadRule number) policy value read = ap (place_of policy) (no_reason policy value read)
-no_place_at (fault.Limit key) policy value read = ap (place_of policy) (no_reason policy value read)
+no_place_at (fault.BadRule number) policy value read = ap (place_of_reason policy) (no_reason policy value read)
+no_place_at (fault.Limit key) policy value read = ap (place_of_reason policy) (no_reason policy value read)
 no_place_at fault.BadRandom policy value read = refl
 no_place_at (fault.InSource name f) policy value read = refl
 no_place_at (fault.InputFault line) policy value read = refl

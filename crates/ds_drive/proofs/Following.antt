@@ -18,25 +18,26 @@ use Rattle.ds_station.proofs.Standings.{as_many, unended_stands}
 use Rattle.ds_words.specs.Windows.{windows_in}
 use Rattle.ds_words.specs.declared.windows.Window.{Window}
 use Rattle.ds_words.specs.declared.words.Extras.{Extras}
-use Rattle.ds_drive.specs.Outcomes.{IsFollowed, came_of, end_told, has_window, is_more, left, where_wanted}
-use Rattle.ds_drive.specs.Windows.{lines_in, windows_text}
+use Rattle.ds_drive.specs.Outcomes.{IsFollowed, came_of, end_told, has_window, left, where_wanted}
+use Rattle.ds_drive.specs.Inner.Outcomes.{is_more}
+use Rattle.ds_drive.specs.Windows.{window_lines_in, windows_text}
 use Rattle.ds_drive.specs.declared.outcome.Came.TheVariants as came
 use Rattle.ds_drive.specs.declared.outcome.Outcome.{Outcome}
 use Rattle.ds_drive.proofs.Heard.{whole_part}
 
 -- what is kept shows what a state has
-pub windows_stand : (h : Held) (m : State) (ws : List Window) → Stands h m → lines_in (length h.kept.state.processes) (memory_held h) ws ≡ windows_text m ws
+pub windows_stand : (h : Held) (m : State) (ws : List Window) → Stands h m → window_lines_in (length h.kept.state.processes) (memory_held h) ws ≡ windows_text m ws
 windows_stand h m ws k =
-    ap (λ (n : ℕ). lines_in n (memory_held h) ws) (sym (as_many h.kept.state.ready m h.kept.state k.agrees.kept.state))
-    ∙ ap (λ (s : PageState). lines_in (length m.processes) s ws) (sym k.agrees.kept.pages)
+    ap (λ (n : ℕ). window_lines_in n (memory_held h) ws) (sym (as_many h.kept.state.ready m h.kept.state k.agrees.kept.state))
+    ∙ ap (λ (s : PageState). window_lines_in (length m.processes) s ws) (sym k.agrees.kept.pages)
 
 -- a front of its lines is one of theirs
-pub windows_part : (h : Held) (ws : List Window) (old new : Option (List ℕ)) → AppendsPart old new (lines_in (length h.kept.state.processes) (memory_held h) ws)
+pub windows_part : (h : Held) (ws : List Window) (old new : Option (List ℕ)) → AppendsPart old new (window_lines_in (length h.kept.state.processes) (memory_held h) ws)
     → (m : State) → Stands h m → AppendsPart old new (windows_text m ws)
 windows_part h ws old new part m k = subst (AppendsPart old new) (windows_stand h m ws k) part
 
 -- and all of them are
-pub windows_whole : (h : Held) (ws : List Window) (old new : Option (List ℕ)) → Appends old new (lines_in (length h.kept.state.processes) (memory_held h) ws)
+pub windows_whole : (h : Held) (ws : List Window) (old new : Option (List ℕ)) → Appends old new (window_lines_in (length h.kept.state.processes) (memory_held h) ws)
     → (m : State) → Stands h m → AppendsPart old new (windows_text m ws)
 windows_whole h ws old new all m k = whole_part old new (windows_text m ws) (subst (Appends old new) (windows_stand h m ws k) all)
 
@@ -68,7 +69,7 @@ nothing_follows extras extent.Whole summary o known h m none done told =
 
 -- what follows by what is kept follows by a state
 pub all_follows : (extras : Extras) (how : Extent) (summary : List ℕ) (o : Outcome) (between new : Option (List ℕ)) (h : Held)
-    → Appends between new (lines_in (length h.kept.state.processes) (memory_held h) (windows_in extras.memory))
+    → Appends between new (window_lines_in (length h.kept.state.processes) (memory_held h) (windows_in extras.memory))
     → o.came ≡ came_of how (where_wanted extras.must_end (first_unended h.kept.state))
     → o.told.items ≡ summary ++ end_told how h (where_wanted extras.must_end (first_unended h.kept.state))
     → (m : State) → Stands h m → IsFollowed extras summary o between new (left how h m)

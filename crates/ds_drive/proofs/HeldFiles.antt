@@ -13,7 +13,7 @@ use Rattle.ds_station.proofs.Alone.{each_alone_if}
 use Rattle.ds_station.proofs.Guarded.{files_guarded_if}
 use Rattle.std.specs.Prelude.{Option, Some, None}
 use Rattle.std.specs.Borrow.{Bor}
-use Rattle.ds_station.specs.Headline.{Begins, Loaded, Writes, loaded}
+use Rattle.ds_station.specs.Headline.{Begins, Loaded, Writes, loaded_with}
 use Rattle.ds_drive.specs.Checked.{IsInput}
 use Rattle.ds_words.specs.declared.words.Request.{Request}
 use Rattle.ds_words.specs.declared.words.RunRequest.{RunRequest}
@@ -21,7 +21,8 @@ use Rattle.ds_drive.specs.declared.outcome.Outcome.{Outcome}
 use Rattle.ds_drive.specs.declared.run.SourceText.{SourceText}
 use Rattle.ds_drive.specs.Inside.{outside_of}
 use Rattle.ds_drive.specs.Failures.{AreHeld, HoldsInputs, OfHeld}
-use Rattle.ds_drive.specs.Ran.{EndsThen, HasLeftFiles, HasRunFiles, IsEnded, IsLeft, OfHeldBoth, Writing, begun_by, first_by, writing}
+use Rattle.ds_drive.specs.Ran.{EndsThen, HasLeftFiles, HasRunFiles, IsLeft, OfHeldBoth, Writing, first_by, writing}
+use Rattle.ds_drive.specs.Inner.Ran.{IsEnded, begun_by}
 
 names_of : (texts : List SourceText) → map (λ (s : List ℕ × List ℕ). s.0) (map (λ s. (s.name, s.text.items)) texts) ≡ map (λ s. s.name) texts
 names_of [] = refl
@@ -115,7 +116,7 @@ of_held_both holds request P value s t i j texts e f so = record {
   sources = t;
   input = j;
   held = texts.held;
-  so = subst (λ (begun : Result Loaded Refusal). P (inputs texts.policy t j request.most_time request.random) begun) (sym (under_policy_by loaded value texts.policy t j request.most_time request.random texts.read))
+  so = subst (λ (begun : Result Loaded Refusal). P (inputs texts.policy t j request.most_time request.random) begun) (sym (under_policy_by loaded_with value texts.policy t j request.most_time request.random texts.read))
       (subst (λ (read : Result State Refusal). P read (begun_by value t j request)) (sym (under_policy value texts.policy t j request.most_time request.random texts.read))
       (subst (λ (x : List ℕ). P (first_by value t x request) (begun_by value t x request)) f
       (subst (λ (x : Sources). P (first_by value x i request) (begun_by value x i request)) e so)));

@@ -6,10 +6,11 @@ use Rattle.std.proofs.lemmas.List.{take_all}
 use Rattle.std.specs.Io.KnownBytes.{Keeps}
 use Rattle.clap.specs.Words.{Text}
 use Rattle.ds_check.specs.Explained.{explained}
-use Rattle.ds_drive.specs.AtFault.{plain, texts_seen}
+use Rattle.ds_drive.specs.AtFault.{plain}
+use Rattle.ds_drive.specs.Inner.AtFault.{texts_seen}
 use Rattle.ds_drive.specs.Checked.{AreGood, ChecksBy, HasNotes, are_faults, meaning_text, with_notes, with_ties}
 use Rattle.ds_drive.specs.Done.{IsStopped, stream}
-use Rattle.ds_drive.specs.Listening.{Listener, Tells}
+use Rattle.ds_drive.specs.Listening.{Listener, IsToldText}
 use Rattle.ds_drive.specs.Noted.{image_of, images_of, notes_text, source_notes, starts_of}
 use Rattle.ds_drive.specs.declared.failure.Failure.TheVariants as failure
 use Rattle.ds_drive.specs.declared.refused.Refused.{Refused}
@@ -25,7 +26,7 @@ use Rattle.ds_words.specs.declared.words.CheckRequest.{CheckRequest}
 -- the notes were told, and nothing is written
 pub check_noted : (words : List Text) (holds : List ℕ → List ℕ → Type 0) (lacks : List ℕ → Type 0) (status : ℕ) (old new : Option (List ℕ)) (err : Listener) (request : CheckRequest) (notes : List ℕ)
     → status ≡ 2 → AsksForCheck words request → HasNotes holds request notes → Keeps old new
-    → Tells err notes → IsStopped status words holds lacks (stream old new) err
+    → IsToldText err notes → IsStopped status words holds lacks (stream old new) err
 check_noted words holds lacks status old new err request notes has asks are kept told =
     inr (inr (inr (inl (request, asks, inr (record { has = has; notes = notes; are = are; kept = kept; told = told })))))
 

@@ -4,9 +4,10 @@ use Rattle.std.specs.Prelude.{Option, Some, None, Result, Ok, Err, IfErr, is_som
 use Rattle.std.proofs.lemmas.Bool.{true≢false}
 use Rattle.ds_drive.specs.declared.failure.Failure.{Failure}
 use Rattle.ds_drive.specs.declared.failure.Failure.TheVariants as failure
-use Rattle.ds_drive.specs.Failures.{AreUnread, AreUntaken}
+use Rattle.ds_drive.specs.Inner.Failures.{AreUnread, AreUntaken}
 use Rattle.ds_drive.specs.Inside.{is_outside, outside_of}
-use Rattle.ds_drive.specs.Reading.{AskedFile, ReadsUntil, TellsOf, TellsOfRun}
+use Rattle.ds_drive.specs.Reading.{AskedFile, ReadsUntil}
+use Rattle.ds_drive.specs.Inner.Reading.{TellsOf, TellsOfRun}
 use Rattle.ds_drive.proofs.Readings.{read_no_more, until_of_run}
 
 abbrev name_or : Option (List ℕ) → List ℕ

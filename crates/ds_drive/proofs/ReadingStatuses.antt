@@ -16,7 +16,8 @@ use Rattle.ds_drive.specs.declared.failure.Failure.TheVariants as failure
 use Rattle.ds_drive.specs.declared.files.FileFault.{FileFault}
 use Rattle.ds_drive.specs.declared.files.FileFault.TheVariants as file
 use Rattle.ds_drive.specs.Failures.{failure_number}
-use Rattle.ds_drive.specs.Reading.{AskedFile, HasStatus, ReadsAll, ReadsFor, ReadsRun, ReadsRunUntil, ReadsUntil, TellsOf, TellsOfRun, bare_names, input_names}
+use Rattle.ds_drive.specs.Reading.{AskedFile, HasStatus, ReadsAll, ReadsFor, ReadsRunUntil, ReadsUntil, bare_names, input_names}
+use Rattle.ds_drive.specs.Inner.Reading.{ReadsRun, TellsOf, TellsOfRun}
 use Rattle.ds_drive.specs.Statuses.{fault_status}
 use Rattle.ds_drive.proofs.Readings.{none_read, read_all, run_read_until, until_so}
 

@@ -10,7 +10,8 @@ use Rattle.ds_policy.specs.PolicyParts.{sources_of}
 use Rattle.ds_policy.specs.PolicyText.{policy_of}
 use Rattle.ds_policy.specs.Refusal.{PolicyRefusal}
 use Rattle.ds_policy.specs.Value.{PolicyValue}
-use Rattle.ds_drive.specs.Reading.{AskedFile, HasAsked, AreInOrder, ReadsAll, ReadsRun, ReadsRunUntil, ReadsUntil, TellsOf, TellsOfRun, all_read, run_names, sources_in}
+use Rattle.ds_drive.specs.Reading.{AskedFile, HasAsked, AreInOrder, ReadsAll, ReadsRunUntil, ReadsUntil, all_read, run_names, sources_in}
+use Rattle.ds_drive.specs.Inner.Reading.{ReadsRun, TellsOf, TellsOfRun}
 
 -- nothing more was asked for
 pub none_asked : (known : Option (List AskedFile)) → HasAsked known known []

@@ -10,13 +10,15 @@ use Rattle.ds_asm.specs.declared.fault.SourceFault.{SourceFault}
 use Rattle.ds_policy.specs.PolicyText.{policy_of}
 use Rattle.ds_policy.specs.PolicyParts.{sources_of}
 use Rattle.ds_policy.specs.Value.{PolicyValue}
-use Rattle.ds_policy.specs.Refusal.{PolicyRefusal, Fails}
+use Rattle.ds_policy.specs.Refusal.{PolicyRefusal}
+use Rattle.ds_policy.specs.Inner.Refusal.{Fails}
 use Rattle.ds_policy.specs.declared.fault.PolicyFault.{PolicyFault}
 use Rattle.ds_policy.specs.declared.events.cause.InputCause.{InputCause}
 use Rattle.ds_policy.specs.declared.fault.PolicyFault.TheVariants as policy_fault
 use Rattle.ds_pagemap.specs.Machine.{State}
 use Rattle.ds_pagemap.specs.Inputs.{Refusal, Sources, inputs, inputs_under}
-use Rattle.ds_station.specs.Faults.{number_of, of_policy}
+use Rattle.ds_station.specs.Faults.{fault_number}
+use Rattle.ds_station.specs.Inner.Faults.{of_policy}
 use Rattle.ds_station.specs.Headline.{EndsBy, Refuses}
 use Rattle.ds_station.specs.declared.fault.Fault.{Fault}
 use Rattle.ds_station.specs.declared.fault.Fault.TheVariants as fault
@@ -32,16 +34,19 @@ use Rattle.ds_words.specs.Windows.{windows_in}
 use Rattle.ds_words.specs.Words.{AsksForDemo, AsksForRun, AsksForList, AsksForCheck}
 use Rattle.ds_drive.specs.declared.run.SourceText.{SourceText}
 use Rattle.ds_drive.proofs.HeldFiles.{all_held, inside_held, names_held, of_texts, same_value}
-use Rattle.ds_drive.specs.Checked.{ChecksBy, IsInput, IsNotRead, IsUnreadInput, RefusesCheck}
+use Rattle.ds_drive.specs.Checked.{ChecksBy, IsInput, IsNotRead, RefusesCheck}
+use Rattle.ds_drive.specs.Inner.Checked.{IsUnreadInput}
 use Rattle.ds_drive.specs.Demo.{demo_inputs}
 use Rattle.ds_drive.specs.Done.{IsStopped, WantsMemory, stream}
-use Rattle.ds_drive.specs.Listening.{Listener, Tells, TellsSome}
-use Rattle.ds_drive.specs.AtFault.{IsCauseOf, IsInputAt, IsPlaceAt, IsReasonAt, IsSourceAt, place_told, plain, texts_seen}
+use Rattle.ds_drive.specs.Listening.{Listener, IsToldText, TellsSome}
+use Rattle.ds_drive.specs.AtFault.{IsInputAt, IsPlaceAt, IsReasonAt, IsSourceAt, place_told, plain}
+use Rattle.ds_drive.specs.Inner.AtFault.{IsCauseOf, texts_seen}
 use Rattle.ds_drive.specs.declared.refused.FaultyPolicy.{FaultyPolicy}
 use Rattle.ds_drive.specs.Told.{below_text, failure_line, listed_faults}
 use Rattle.ds_drive.specs.declared.refused.Refused.{Refused}
 use Rattle.ds_drive.proofs.Faulty.{nothing_mapped, plain_is, policy_at, texts_at}
-use Rattle.ds_drive.specs.Failures.{AreUnread, AreUntaken, EndsThenBy, FilesStop, HoldsInputs, IsNext, IsUnread, IsUnreadRun, LacksProcess, MayBeRead, StopsBy, failure_number}
+use Rattle.ds_drive.specs.Failures.{EndsThenBy, FilesStop, HoldsInputs, IsNext, LacksProcess, MayBeRead, StopsBy, failure_number}
+use Rattle.ds_drive.specs.Inner.Failures.{AreUnread, AreUntaken, IsUnread, IsUnreadRun}
 use Rattle.ds_drive.specs.Windows.{lacking_of}
 use Rattle.ds_drive.proofs.Ending.{ends_then_by}
 use Rattle.ds_drive.specs.Inside.{outside_of}
@@ -311,16 +316,16 @@ module _ (holds : List ℕ → List ℕ → Type 0) (lacks : List ℕ → Type 0
 
 -- What the program says of it.
 module _ (words : List Text) (holds : List ℕ → List ℕ → Type 0) (lacks : List ℕ → Type 0) (status : ℕ) (old new : Option (List ℕ)) (err : Listener) where
-  pub demo_stopped : (f : Fault) → fault_status (number_of f) ≡ status → AsksForDemo words → EndsBy f demo_inputs old new 100
-      → Tells err (failure_line (failure.Fault f)) → IsStopped status words holds lacks (stream old new) err
+  pub demo_stopped : (f : Fault) → fault_status (fault_number f) ≡ status → AsksForDemo words → EndsBy f demo_inputs old new 100
+      → IsToldText err (failure_line (failure.Fault f)) → IsStopped status words holds lacks (stream old new) err
   demo_stopped f has asks ends told = inl (asks, record { fault = f; has = has; stops = ends; told = told })
 
   pub run_stopped : (request : RunRequest) (f : Failure) → fault_status (failure_number f) ≡ status → AsksForRun words request → StopsBy f holds lacks request old new
-      → Tells err (failure_line f) → IsStopped status words holds lacks (stream old new) err
+      → IsToldText err (failure_line f) → IsStopped status words holds lacks (stream old new) err
   run_stopped request f has asks stops told = inr (inl (request, asks, record { failure = f; has = has; so = stops; told = told }))
 
   pub list_stopped : (request : ListRequest) (f : Failure) → fault_status (failure_number f) ≡ status → AsksForList words request → FailsBy f holds lacks request old new
-      → Tells err (failure_line f) → IsStopped status words holds lacks (stream old new) err
+      → IsToldText err (failure_line f) → IsStopped status words holds lacks (stream old new) err
   list_stopped request f has asks fails told = inr (inr (inl (request, asks, inl (record { failure = f; has = has; so = fails; told = told }))))
 
   pub list_faulty : (request : ListRequest) (text : List ℕ) (faults : List SourceFault) → status ≡ 2 → AsksForList words request → HasFaults holds request text faults → Keeps old new
@@ -332,5 +337,5 @@ module _ (words : List Text) (holds : List ℕ → List ℕ → Type 0) (lacks :
   check_stopped request r has asks refused told = inr (inr (inr (inl (request, asks, inl (record { refused = r; has = has; so = refused; told = told })))))
 
 -- memory was wanting for the words
-pub wants_memory : (known : Option (List ℕ)) (err : Listener) → Tells err (failure_line (failure.Fault fault.Memory)) → WantsMemory (stream known known) err
+pub wants_memory : (known : Option (List ℕ)) (err : Listener) → IsToldText err (failure_line (failure.Fault fault.Memory)) → WantsMemory (stream known known) err
 wants_memory known err told = (keeps_same known, told)

@@ -5,12 +5,13 @@ use Rattle.std.specs.Prelude.{Option, Some, Result, Ok, Err, OnOk, codes, slice_
 use Rattle.std.specs.Io.KnownBytes.{Appends}
 use Rattle.ds_asm.specs.declared.fault.SourceFault.{SourceFault}
 use Rattle.ds_log.specs.Sent.{AppendsPart}
-use Rattle.ds_log.proofs.Sends.{appends_both, appends_none, part_behind, part_before}
+use Rattle.ds_log.proofs.Sends.{appends_both, appends_none, part_after, part_before}
 use Rattle.ds_asm.specs.Assembling.{source_fault_line}
 use Rattle.ds_source_reasons.specs.declared.fault.FaultyLines.{FaultyLines}
 use Rattle.ds_source_reasons.specs.Told.{after_line, after_lines}
 use Rattle.ds_drive.specs.declared.refused.FaultySource.{FaultySource}
-use Rattle.ds_drive.specs.Told.{Passed, fault_shown, none_passed, others_told, pass, passed_in, reason_after, source_shown, told_line, told_lines}
+use Rattle.ds_drive.specs.Told.{Passed, fault_shown, none_passed, others_told, pass, reason_after, source_shown, fault_line, told_lines}
+use Rattle.ds_drive.specs.Inner.Told.{passed_in}
 
 -- of a whole text so much was sent, and this is still to come
 pub record SentOf (old new : Option (List ℕ)) (left whole : List ℕ) : Type 0 where
@@ -47,7 +48,7 @@ sent_front old new left whole before = record { part = before.sent; rest = left;
 -- and so with a front of the sheet
 pub sent_part : (old now new : Option (List ℕ)) (text held more whole : List ℕ) → SentOf old now (text ++ more) whole → held ≡ text → AppendsPart now new held → AppendsPart old new whole
 sent_part old now new text held more whole before same part =
-    subst (AppendsPart old new) before.all (part_behind old now new before.sent (text ++ more) before.appends (part_before now new text more (subst (AppendsPart now new) same part)))
+    subst (AppendsPart old new) before.all (part_after old now new before.sent (text ++ more) before.appends (part_before now new text more (subst (AppendsPart now new) same part)))
 
 -- with the sheet all was sent
 pub sent_all : (old now new : Option (List ℕ)) (text held more whole : List ℕ) → SentOf old now (text ++ more) whole → held ≡ text → more ≡ [] → Appends now new held → Appends old new whole
@@ -59,7 +60,7 @@ module _ (front place source : List ℕ) where
   -- the lines of the faults from a place on: that of the fault there, and those after it
   pub told_from : (p : Passed) (faults : List SourceFault) (i : ℕ) (d : SourceFault) → i < length faults
       → told_lines front place source p (drop i faults)
-      ≡ told_line front place source (reason_after p (get_or faults i d)) (get_or faults i d) ++ told_lines front place source (pass p (get_or faults i d)) (drop (suc i) faults)
+      ≡ fault_line front place source (reason_after p (get_or faults i d)) (get_or faults i d) ++ told_lines front place source (pass p (get_or faults i d)) (drop (suc i) faults)
   unfolding told_lines
   told_from p [] i d h = absurd (omega (arith, h))
   told_from p (f ∷ faults) zero d h = refl
@@ -76,13 +77,13 @@ module _ (front place source : List ℕ) where
   -- one fault more stands on the sheet
   pub one_told : (old new : Option (List ℕ)) (faults : List SourceFault) (i : ℕ) (d : SourceFault) (heads : List ℕ × List ℕ × List ℕ) (p later : Passed) (text sheet whole : List ℕ)
       → i < length faults → heads ≡ (front, place, source)
-      → text ≡ sheet ++ told_line heads.0 heads.1 heads.2 (reason_after p (get_or faults i d)) (get_or faults i d)
+      → text ≡ sheet ++ fault_line heads.0 heads.1 heads.2 (reason_after p (get_or faults i d)) (get_or faults i d)
       → later ≡ pass p (get_or faults i d)
       → SentOf old new (sheet ++ told_lines front place source p (drop i faults)) whole
       → SentOf old new (text ++ told_lines front place source later (drop (i + 1) faults)) whole
   one_told old new faults i d heads p later text sheet whole within is told passed before =
       let next : suc i ≡ i + 1 = omega arith in
-      let line = subst (λ (h : List ℕ × List ℕ × List ℕ). text ≡ sheet ++ told_line h.0 h.1 h.2 (reason_after p (get_or faults i d)) (get_or faults i d)) is told in
+      let line = subst (λ (h : List ℕ × List ℕ × List ℕ). text ≡ sheet ++ fault_line h.0 h.1 h.2 (reason_after p (get_or faults i d)) (get_or faults i d)) is told in
       subst (λ (n : ℕ). SentOf old new (text ++ told_lines front place source later (drop n faults)) whole) next
       (subst (λ (q : Passed). SentOf old new (text ++ told_lines front place source q (drop (suc i) faults)) whole) (sym passed)
       (line_added old new sheet text _ _ _ whole (told_from p faults i d within) line before))

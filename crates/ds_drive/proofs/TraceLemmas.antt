@@ -7,11 +7,11 @@ use Rattle.clap.specs.Words.{Text}
 use Rattle.ds_listing.specs.Pages.{plain_pages}
 use Rattle.ds_listing.specs.declared.pages.PageLines.{PageLines}
 use Rattle.ds_log.specs.Sent.{AppendsPart}
-use Rattle.ds_log.proofs.Sends.{part_before, part_behind}
+use Rattle.ds_log.proofs.Sends.{part_before, part_after}
 use Rattle.ds_policy.specs.Value.{PolicyValue}
 use Rattle.ds_pagemap.specs.Machine.{State}
 use Rattle.ds_pagemap.specs.Inputs.{Refusal, Sources}
-use Rattle.ds_pagemap.specs.Text.{text_of}
+use Rattle.ds_pagemap.specs.Text.{state_text}
 use Rattle.ds_refinement.specs.Held.{Held}
 use Rattle.ds_refinement.specs.Stands.{Stands}
 use Rattle.ds_station.specs.Headline.{Begins, Loaded, Refuses}
@@ -19,7 +19,7 @@ use Rattle.ds_station.specs.declared.fault.Fault.{Fault}
 use Rattle.ds_station.specs.declared.fault.Fault.TheVariants as fault
 use Rattle.ds_station.specs.declared.pieces.Extent.TheVariants.{Whole}
 use Rattle.ds_station.proofs.Headlines.{keeps_same}
-use Rattle.ds_trace.specs.Handed.{IsLate}
+use Rattle.ds_trace.specs.Inner.Handed.{IsLate}
 use Rattle.ds_trace.specs.Summed.{summed_text}
 use Rattle.ds_trace.specs.Traces.{TraceEndsBy, WritesTraceBy, WritesTracePart, WritesTraceReally, counts_along, told_to}
 use Rattle.ds_trace.proofs.Inputs.{short_part}
@@ -31,14 +31,17 @@ use Rattle.ds_drive.specs.declared.failure.Failure.{Failure}
 use Rattle.ds_drive.specs.declared.failure.Failure.TheVariants as failure
 use Rattle.ds_drive.specs.declared.outcome.Outcome.{Outcome}
 use Rattle.ds_drive.specs.Done.{IsCutShort, IsStopped, stream}
-use Rattle.ds_drive.specs.Listening.{Listener, Tells}
-use Rattle.ds_drive.specs.Failures.{HoldsInputs, IsUnreadRun, LacksProcess, failure_number}
+use Rattle.ds_drive.specs.Listening.{Listener, IsToldText}
+use Rattle.ds_drive.specs.Failures.{HoldsInputs, LacksProcess, failure_number}
+use Rattle.ds_drive.specs.Inner.Failures.{IsUnreadRun}
 use Rattle.ds_drive.specs.Outcomes.{IsFollowed, left, wants_more, where_asked}
-use Rattle.ds_drive.specs.Placed.{OfPlaced, WithPlaced, placed, seen}
+use Rattle.ds_drive.specs.Placed.{OfPlaced, pages_by_sources, trace_with_lines}
+use Rattle.ds_drive.specs.Inner.Placed.{WithPlaced}
 use Rattle.ds_drive.specs.Ran.{IsTraced, trace_summary}
 use Rattle.ds_drive.specs.Statuses.{fault_status}
 use Rattle.ds_drive.specs.Told.{failure_line}
-use Rattle.ds_drive.specs.TraceRuns.{CutsTrace, FilesTraceEnds, PlacedTraceEnds, TraceEndsThenBy, TraceStopsBy, TracesPartThen}
+use Rattle.ds_drive.specs.TraceRuns.{CutsTrace, FilesTraceEnds, TraceEndsThenBy, TraceStopsBy, TracesPartThen}
+use Rattle.ds_drive.specs.Inner.TraceRuns.{PlacedTraceEnds}
 use Rattle.ds_drive.specs.Windows.{lacking_of, windows_text}
 use Rattle.ds_drive.proofs.Cuts.{files_cut_by}
 use Rattle.ds_drive.proofs.Stops.{unread_stops}
@@ -65,7 +68,7 @@ module _ (request : TraceRequest) where
         reached = w.reached;
         processor = w.processor;
         processed = w.processed;
-        written = subst (AppendsPart old new) (append_assoc lines (text_of w.last) windows) (part_before old new (lines ++ text_of w.last) windows w.written);
+        written = subst (AppendsPart old new) (append_assoc lines (state_text w.last) windows) (part_before old new (lines ++ state_text w.last) windows w.written);
       }
 
   -- a trace ended by a fault
@@ -93,8 +96,8 @@ module _ (request : TraceRequest) where
           reached = w.ends.reached;
           processor = w.processor;
           processed = w.processed.0;
-          written = part_behind old w.between new (told_to request.view request.run.most_time b.0 w.last w.ends.reached w.processor) (text_of w.last ++ windows) w.trace
-              (part_behind w.between between new (text_of w.last) windows w.written (follows w.last w.processed.1));
+          written = part_after old w.between new (told_to request.view request.run.most_time b.0 w.last w.ends.reached w.processor) (state_text w.last ++ windows) w.trace
+              (part_after w.between between new (state_text w.last) windows w.written (follows w.last w.processed.1));
         },
       )
 
@@ -148,7 +151,7 @@ leaves_part f request read old new refused = inl refused.1
 placed_part : (f : Fault) (holds : List ℕ → List ℕ → Type 0) (request : TraceRequest) (read : Result State Refusal) (old new : Option (List ℕ)) → FilesTraceEnds holds request old new f read
     → Keeps old new ⊎ OfPlaced holds request (λ told. Begins read (TracesPartThen told old new))
 placed_part f holds request read old new (inl refused) = inl refused.1
-placed_part f holds request read old new (inr p) = elim (leaves_part f (seen request p.pages) read old new p.so) [
+placed_part f holds request read old new (inr p) = elim (leaves_part f (trace_with_lines request p.pages) read old new p.so) [
   | inl kept ↦ inl kept
   | inr part ↦ inr (record { pages = p.pages; placed = p.placed; so = part })
 ]
@@ -160,7 +163,7 @@ trace_leaves f holds lacks request old new stops =
 
 -- what holds of the trace with these lines, where they are those of the sources, holds of that with the lines of the sources
 pub with_placed : (value : PolicyValue) (s : Sources) (request : TraceRequest) (P : TraceRequest → Type 0) (pages : Bor (List (Option PageLines))) (view : View)
-    → view ≡ record request.view { pages = pages } → plain_pages pages.now ≡ placed value s request → P (record request { view = view }) → WithPlaced value s request P
+    → view ≡ record request.view { pages = pages } → plain_pages pages.now ≡ pages_by_sources value s request → P (record request { view = view }) → WithPlaced value s request P
 with_placed value s request P pages view is are so = record {
   pages = pages;
   are = are;
@@ -172,7 +175,7 @@ pub of_placed : (holds : List ℕ → List ℕ → Type 0) (request : TraceReque
     → HoldsInputs holds request.run value t input → s ≡ t → WithPlaced value s request P → OfPlaced holds request P
 of_placed holds request P value s t input held e w = record {
   pages = w.pages;
-  placed = record { value = value; sources = t; input = input; held = held; are = w.are ∙ ap (λ (x : Sources). placed value x request) e };
+  placed = record { value = value; sources = t; input = input; held = held; are = w.are ∙ ap (λ (x : Sources). pages_by_sources value x request) e };
   so = w.so;
 }
 
@@ -192,6 +195,6 @@ trace_cut words holds lacks request f old new asks stops = elim (trace_leaves f 
 -- What the program says of it.
 pub trace_stopped : (words : List Text) (holds : List ℕ → List ℕ → Type 0) (lacks : List ℕ → Type 0) (status : ℕ) (old new : Option (List ℕ)) (err : Listener) (request : TraceRequest) (f : Failure)
     → fault_status (failure_number f) ≡ status → AsksForTrace words request → TraceStopsBy f holds lacks request old new
-    → Tells err (failure_line f) → IsStopped status words holds lacks (stream old new) err
+    → IsToldText err (failure_line f) → IsStopped status words holds lacks (stream old new) err
 trace_stopped words holds lacks status old new err request f has asks stops told =
     inr (inr (inr (inr (inr (inl (request, asks, record { failure = f; has = has; so = stops; told = told }))))))

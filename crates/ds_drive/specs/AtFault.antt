@@ -1,5 +1,5 @@
 -- Which source, which input and which place in a policy are told of a check that is refused.
-use Rattle.std.specs.Prelude.{◌≡◌, ◌≤◌, ℕ, List, Option, None, Some, Ok, IfSome, is_some, length, map, not, option_map, ⊤}
+use Rattle.std.specs.Prelude.{◌≡◌, ◌≤◌, ℕ, List, Option, None, Some, Ok, IfSome, is_some, length, not, option_map, ⊤}
 use Rattle.ds_asm.specs.Faults.{all_faults}
 use Rattle.ds_check.specs.declared.places.Place.{Place}
 use Rattle.ds_check.specs.Places.{place_at}
@@ -18,12 +18,7 @@ use Rattle.ds_drive.specs.declared.refused.FaultyInput.{FaultyInput}
 use Rattle.ds_drive.specs.declared.refused.FaultyPolicy.{FaultyPolicy}
 use Rattle.ds_drive.specs.declared.refused.FaultySource.{FaultySource}
 use Rattle.ds_drive.specs.declared.refused.Refused.{Refused}
-use Rattle.ds_drive.specs.declared.run.SourceText.{SourceText}
-use Rattle.ds_drive.specs.PolicyPlaces.{place_of}
-
--- each source's name and text
-abbrev pub texts_seen : List SourceText → Sources
-texts_seen texts = map (λ s. (s.name, s.text.items)) texts
+use Rattle.ds_drive.specs.PolicyPlaces.{place_of_reason}
 
 -- a failure of which nothing is told besides
 abbrev pub plain : Failure → Refused
@@ -52,8 +47,8 @@ place_told told = option_map (λ p. p.place) told
 
 -- where the fault is the policy's, the place that its reason names is told; exactly where the policy is no document, some place in its text; and of another fault none
 abbrev pub IsPlaceAt : Fault → List ℕ → Option Place → Type 0
-IsPlaceAt (fault.BadRule number) policy place = place ≡ place_of policy (policy_reason policy)
-IsPlaceAt (fault.Limit key) policy place = place ≡ place_of policy (policy_reason policy)
+IsPlaceAt (fault.BadRule number) policy place = place ≡ place_of_reason policy (policy_reason policy)
+IsPlaceAt (fault.Limit key) policy place = place ≡ place_of_reason policy (policy_reason policy)
 IsPlaceAt fault.BadToml policy place = (is_some place ≡ not (is_some (document policy))) × IfSome place (λ p. (n : ℕ) × (n ≤ length policy) × (p ≡ place_at policy n))
 IsPlaceAt f policy place = place ≡ None
 
@@ -67,11 +62,6 @@ IsReasonAt f policy why = why ≡ None
 -- what is wrong with the line of an input, which the pages of a policy decide
 abbrev pub cause_of : List PolicyPage → List ℕ → Option InputCause
 cause_of pages input = option_map (λ why. why.cause) (input_reason pages input)
-
--- this is what is wrong with the line, where the fault is the input's
-abbrev pub IsCauseOf : Fault → List PolicyPage → List ℕ → Option InputCause → Type 0
-IsCauseOf (fault.InputFault line) pages input cause = cause ≡ cause_of pages input
-IsCauseOf f pages input cause = ⊤
 
 -- where an input is told, what is wrong with the line is told with it
 abbrev pub IsCauseAt : List PolicyPage → Option FaultyInput → Type 0

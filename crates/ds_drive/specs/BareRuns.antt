@@ -12,22 +12,11 @@ use Rattle.ds_bare.specs.Faults.{may_start}
 use Rattle.ds_bare.specs.Keys.{keys_in}
 use Rattle.ds_bare.specs.Machine.{machine_at_start}
 use Rattle.ds_bare.specs.Runs.{IsCutBetween, bare_text}
-use Rattle.ds_bare.specs.declared.fault.BareFault.{BareFault}
-use Rattle.ds_bare.specs.declared.fault.BareFault.TheVariants as bare
-use Rattle.ds_station.specs.declared.fault.Fault.{Fault}
 use Rattle.ds_station.specs.declared.fault.Fault.TheVariants as fault
 use Rattle.ds_drive.specs.declared.failure.Failure.{Failure}
 use Rattle.ds_drive.specs.declared.failure.Failure.TheVariants as failure
-use Rattle.ds_drive.specs.declared.list.Listing.{Listing}
-use Rattle.ds_drive.specs.declared.list.Listing.TheVariants as listing
 use Rattle.ds_drive.specs.Checked.{IsInput}
 use Rattle.ds_words.specs.declared.words.BareRequest.{BareRequest}
-
--- what a refusal of a bare run is to the program
-abbrev pub of_bare : BareFault → Fault
-of_bare bare.BadRandom = fault.BadRandom
-of_bare bare.WriteFault = fault.WriteFault
-of_bare bare.Memory = fault.Memory
 
 -- a source and an input, each as its file holds it, are good: the source has an image, and the
 -- input's lines say characters; Random may start where it is wanted; and of the image and the
@@ -68,11 +57,6 @@ pub record HasWrongLine (holds : List ℕ → List ℕ → Type 0) (request : Ba
   pub input : List ℕ
   pub held : IsInput holds request.keys input
   pub wrong : input_of [] input ≡ Err line
-
--- what comes of it: the run is told, or the faults are all that the source has, and nothing is written
-abbrev pub RunsOrIsFaulty : Listing → (List ℕ → List ℕ → Type 0) → BareRequest → Option (List ℕ) → Option (List ℕ) → Type 0
-RunsOrIsFaulty listing.Written holds request old new = RunsBare holds request old new
-RunsOrIsFaulty (listing.Faults source) holds request old new = HasBareFaults holds request source.text.items source.faults.items × Keeps old new
 
 -- this name is that of the source, or of the input where one is named
 abbrev pub IsNamedByBare : BareRequest → List ℕ → Type 0

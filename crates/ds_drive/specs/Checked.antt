@@ -17,11 +17,9 @@ use Rattle.ds_drive.specs.declared.failure.Failure.{Failure}
 use Rattle.ds_drive.specs.declared.failure.Failure.TheVariants as failure
 use Rattle.ds_drive.specs.declared.refused.Refused.{Refused}
 use Rattle.ds_drive.specs.AtFault.{IsAtFault, plain}
-use Rattle.ds_drive.specs.Failures.{IsUnread, LeavesSource}
+use Rattle.ds_drive.specs.Failures.{LeavesSource}
 use Rattle.ds_drive.specs.Inside.{outside_of}
 use Rattle.ds_drive.specs.Noted.{notes_text, starts_of}
-use Rattle.ds_drive.specs.declared.check.Checking.{Checking}
-use Rattle.ds_drive.specs.declared.check.Checking.TheVariants as checking
 use Rattle.ds_check.specs.Explained.{explained}
 use Rattle.ds_words.specs.declared.words.CheckRequest.{CheckRequest}
 
@@ -70,8 +68,8 @@ abbrev pub with_notes : List ℕ → List ℕ → List ℕ
 with_notes text notes = text ++ (codes "notes\n" ++ notes)
 
 -- it is written, with the notes, which are no faults
-abbrev pub Explains : (List ℕ → List ℕ → Type 0) → CheckRequest → Option (List ℕ) → Option (List ℕ) → Type 0
-Explains holds request old new = OfGood holds request (λ text notes. (are_faults request notes ≡ false) × Appends old new (with_notes text notes))
+abbrev pub ExplainsCheck : (List ℕ → List ℕ → Type 0) → CheckRequest → Option (List ℕ) → Option (List ℕ) → Type 0
+ExplainsCheck holds request old new = OfGood holds request (λ text notes. (are_faults request notes ≡ false) × Appends old new (with_notes text notes))
 
 -- a front of it is written
 abbrev pub CutsExplanation : (List ℕ → List ℕ → Type 0) → CheckRequest → Option (List ℕ) → Option (List ℕ) → Type 0
@@ -80,16 +78,6 @@ CutsExplanation holds request old new = OfGood holds request (λ text notes. (ar
 -- these are the notes, and they are taken for faults
 abbrev pub HasNotes : (List ℕ → List ℕ → Type 0) → CheckRequest → List ℕ → Type 0
 HasNotes holds request told = OfGood holds request (λ text notes. (are_faults request notes ≡ true) × (told ≡ notes))
-
--- what comes of a check: the explanation and the notes are written; or there are notes that are taken for faults, and nothing is
-abbrev pub Checks : Checking → (List ℕ → List ℕ → Type 0) → CheckRequest → Option (List ℕ) → Option (List ℕ) → Type 0
-Checks checking.Explained holds request old new = Explains holds request old new
-Checks (checking.Noted notes) holds request old new = HasNotes holds request notes.items × Keeps old new
-
--- the file of the input was not read
-abbrev pub IsUnreadInput : (List ℕ → Type 0) → Option (Bor (List ℕ)) → Failure → Type 0
-IsUnreadInput lacks None f = ⊥
-IsUnreadInput lacks (Some name) f = IsUnread lacks name.now f
 
 -- of a policy, its sources and an input, each as its file holds it, this holds
 pub record OfChecked (holds : List ℕ → List ℕ → Type 0) (request : CheckRequest) (P : List ℕ → Sources → List ℕ → Type 0) : Type 0 where

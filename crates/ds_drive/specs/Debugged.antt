@@ -12,7 +12,7 @@ use Rattle.ds_words.specs.declared.words.Request.{Request}
 use Rattle.ds_drive.specs.declared.failure.Failure.{Failure}
 use Rattle.ds_drive.specs.declared.failure.Failure.TheVariants as failure
 use Rattle.ds_drive.specs.Failures.{FilesStop, HoldsInputs}
-use Rattle.ds_drive.specs.Listening.{Listener, Tells}
+use Rattle.ds_drive.specs.Listening.{Listener, IsToldText}
 
 -- of what the files hold, as a run begins with it, this holds
 pub record OfRunInputs (holds : List ℕ → List ℕ → Type 0) (request : Request) (P : RunInputs → Type 0) : Type 0 where
@@ -46,4 +46,4 @@ pub record IsUnheard (status : ℕ) (holds : List ℕ → List ℕ → Type 0) (
   pub unread : Option (List ℕ)
   pub left : Option (List ℕ)
   pub so : HasDebugged Unread holds request (pipes unread left old new)
-  pub told : Tells err (codes "dsmon: standard input could not be read\n")
+  pub told : IsToldText err (codes "dsmon: standard input could not be read\n")

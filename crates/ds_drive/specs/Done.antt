@@ -1,9 +1,9 @@
 -- What the program has done.
-use Rattle.std.specs.Prelude.{◌≡◌, ◌⊎◌, ℕ, false, List, [], Option, Some}
+use Rattle.std.specs.Prelude.{◌≡◌, ◌⊎◌, ℕ, false, List, [], Option}
 use Rattle.std.specs.Io.KnownBytes.{Keeps}
 use Rattle.clap.specs.Words.{Text}
 use Rattle.ds_asm.specs.declared.fault.SourceFault.{SourceFault}
-use Rattle.ds_station.specs.Faults.{number_of}
+use Rattle.ds_station.specs.Faults.{fault_number}
 use Rattle.ds_station.specs.Headline.{Begins, WritesPart, EndsBy}
 use Rattle.ds_station.specs.declared.fault.Fault.{Fault}
 use Rattle.ds_drive.specs.declared.failure.Failure.{Failure}
@@ -22,14 +22,14 @@ use Rattle.ds_drive.specs.declared.outcome.Outcome.{Outcome}
 use Rattle.ds_drive.specs.declared.refused.Refused.{Refused}
 use Rattle.ds_drive.specs.Failures.{CutsFiles, StopsBy, failure_number, memory_failure}
 use Rattle.ds_drive.specs.Told.{below_text, failure_line, listed_faults}
-use Rattle.ds_drive.specs.Listening.{Listener, Tells, TellsSome}
+use Rattle.ds_drive.specs.Listening.{Listener, IsToldText, TellsSome}
 use Rattle.ds_drive.specs.Statuses.{fault_status}
 use Rattle.ds_drive.specs.BareRuns.{RunsBare, CutsBare, BareFailsBy, HasBareFaults}
 use Rattle.ds_debug.specs.Serving.{pipes}
 use Rattle.ds_debug.specs.declared.serving.Ending.TheVariants.{Over}
 use Rattle.ds_drive.specs.Debugged.{CutsDebug, DebugStopsBy, HasDebugged, IsUnheard}
 use Rattle.ds_drive.specs.ExplainedLogs.{CutsExplained, ExplainStopsBy, HasExplained}
-use Rattle.ds_drive.specs.Checked.{Explains, CutsExplanation, ChecksBy, HasNotes}
+use Rattle.ds_drive.specs.Checked.{ExplainsCheck, CutsExplanation, ChecksBy, HasNotes}
 use Rattle.ds_drive.specs.Listed.{ListsFile, CutsListing, FailsBy, HasFaults}
 use Rattle.ds_drive.specs.Ran.{HasLeftFiles, HasRunDemo, HasRunFiles, HasTracedFiles}
 use Rattle.ds_drive.specs.TraceRuns.{CutsTrace, TraceStopsBy}
@@ -49,7 +49,7 @@ pub record ComesTo (which : Came) (err : Listener) (P : Outcome → Type 0) : Ty
   pub outcome : Outcome
   pub is : outcome.came ≡ which
   pub so : P outcome
-  pub told : Tells err outcome.told.items
+  pub told : IsToldText err outcome.told.items
 
 -- what the words ask for was run, listed or explained, and its text is written; a run is under a
 -- policy, with its trace or without, or on the bare machine; or a session with a debugger was held to its end, where this was to be read and is left; or the log of a run was explained
@@ -58,15 +58,11 @@ IsDone words holds input out err =
     (AsksForDemo words × HasRunDemo out.old out.new)
     ⊎ (((request : RunRequest) × AsksForRun words request × ComesTo came.Done err (λ o. HasRunFiles holds request o out.old out.new))
     ⊎ (((request : ListRequest) × AsksForList words request × ListsFile holds request out.old out.new)
-    ⊎ (((request : CheckRequest) × AsksForCheck words request × Explains holds request out.old out.new)
+    ⊎ (((request : CheckRequest) × AsksForCheck words request × ExplainsCheck holds request out.old out.new)
     ⊎ (((request : BareRequest) × AsksForBare words request × RunsBare holds request out.old out.new)
     ⊎ (((request : TraceRequest) × AsksForTrace words request × ComesTo came.Done err (λ o. HasTracedFiles holds request o out.old out.new))
     ⊎ (((request : Request) × AsksForDebug words request × HasDebugged Over holds request (pipes input.old input.new out.old out.new))
     ⊎ ((request : ExplainRequest) × AsksForExplain words request × HasExplained holds request out.old out.new)))))))
-
--- nothing was to be read
-abbrev pub no_input : Stream
-no_input = stream (Some []) (Some [])
 
 -- what the words ask for was run, with its trace or without, and a process has not ended, though the words want that all end; which it is was told
 abbrev pub IsUnended : List Text → (List ℕ → List ℕ → Type 0) → Stream → Listener → Type 0
@@ -101,16 +97,16 @@ IsCutShort words holds old new =
 -- the demonstration ended by a fault of this status, which was told
 pub record DemoStops (status : ℕ) (out : Stream) (err : Listener) : Type 0 where
   pub fault : Fault
-  pub has : fault_status (number_of fault) ≡ status
+  pub has : fault_status (fault_number fault) ≡ status
   pub stops : EndsBy fault demo_inputs out.old out.new 100
-  pub told : Tells err (failure_line (failure.Fault fault))
+  pub told : IsToldText err (failure_line (failure.Fault fault))
 
 -- a failure of this status, of which this holds, was told
 pub record FailsWith (status : ℕ) (err : Listener) (P : Failure → Type 0) : Type 0 where
   pub failure : Failure
   pub has : fault_status (failure_number failure) ≡ status
   pub so : P failure
-  pub told : Tells err (failure_line failure)
+  pub told : IsToldText err (failure_line failure)
 
 -- the file is a source with faults, which have status 2: they were told, each with its reason, as far as there was memory for that, and nothing is written
 pub record IsFaulty (status : ℕ) (holds : List ℕ → List ℕ → Type 0) (request : ListRequest) (out : Stream) (err : Listener) : Type 0 where
@@ -143,7 +139,7 @@ pub record IsNoted (status : ℕ) (holds : List ℕ → List ℕ → Type 0) (re
   pub notes : List ℕ
   pub are : HasNotes holds request notes
   pub kept : Keeps out.old out.new
-  pub told : Tells err notes
+  pub told : IsToldText err notes
 
 -- what the words ask for is not done, for a cause that has this status and was told
 abbrev pub IsStopped : ℕ → List Text → (List ℕ → List ℕ → Type 0) → (List ℕ → Type 0) → Stream → Listener → Type 0
@@ -159,4 +155,4 @@ IsStopped status words holds lacks out err =
 
 -- nothing is written, and want of memory was told
 abbrev pub WantsMemory : Stream → Listener → Type 0
-WantsMemory out err = Keeps out.old out.new × Tells err (failure_line memory_failure)
+WantsMemory out err = Keeps out.old out.new × IsToldText err (failure_line memory_failure)

@@ -24,8 +24,8 @@ chosen_by None = All
 chosen_by (Some number) = One number
 
 -- what the words for a log are taken from: the text and the value of a policy, and its sources with the image of each
-abbrev pub told_from : List ℕ → PolicyValue → Sources → Context
-told_from text value sources = record { text = text; pages = value.pages; rules = value.rules; sources = record { sources = sources; images = images_of sources } }
+abbrev pub log_context : List ℕ → PolicyValue → Sources → Context
+log_context text value sources = record { text = text; pages = value.pages; rules = value.rules; sources = record { sources = sources; images = images_of sources } }
 
 -- of what the files hold, as a log is explained from it and as a run begins with it, this holds
 pub record OfTexts (holds : List ℕ → List ℕ → Type 0) (request : Request) (P : Context → Result State Refusal → Type 0) : Type 0 where
@@ -34,7 +34,7 @@ pub record OfTexts (holds : List ℕ → List ℕ → Type 0) (request : Request
   pub sources : Sources
   pub input : List ℕ
   pub held : HoldsTexts holds request text value sources input
-  pub so : P (told_from text value sources) (first_by value sources input request)
+  pub so : P (log_context text value sources) (first_by value sources input request)
 
 -- the log of a run of the files was explained
 abbrev pub HasExplained : (List ℕ → List ℕ → Type 0) → ExplainRequest → Option (List ℕ) → Option (List ℕ) → Type 0

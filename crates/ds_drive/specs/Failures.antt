@@ -1,16 +1,16 @@
 -- Why the program could not do what its words ask for, and what was written then.
-use Rattle.std.specs.Prelude.{◌≡◌, ◌⊎◌, ◌||◌, ◌++◌, ℕ, Bool, true, List, length, map, Option, None, Some, Result, Ok, All, Contains, is_some, take, ⊤}
+use Rattle.std.specs.Prelude.{◌≡◌, ◌⊎◌, ◌||◌, ◌++◌, ℕ, Bool, true, List, length, map, Option, None, Some, Result, Ok, All, Contains, is_some, take}
 use Rattle.std.specs.Io.KnownBytes.{Keeps}
 use Rattle.ds_policy.specs.PolicyText.{policy_of}
 use Rattle.ds_policy.specs.PolicyParts.{sources_of}
 use Rattle.ds_policy.specs.Value.{PolicyValue}
 use Rattle.ds_pagemap.specs.Machine.{State}
 use Rattle.ds_pagemap.specs.Run.{IsPrefix}
-use Rattle.ds_pagemap.specs.Text.{text_of}
+use Rattle.ds_pagemap.specs.Text.{state_text}
 use Rattle.ds_pagemap.specs.Inputs.{Refusal, Sources, inputs}
 use Rattle.ds_log.specs.Sent.{AppendsPart}
-use Rattle.ds_station.specs.Faults.{number_of}
-use Rattle.ds_station.specs.Headline.{Begins, EndsBy, Refuses}
+use Rattle.ds_station.specs.Faults.{fault_number}
+use Rattle.ds_station.specs.Headline.{Begins, EndsBy}
 use Rattle.ds_station.specs.declared.fault.Fault.{Fault}
 use Rattle.ds_station.specs.declared.fault.Fault.TheVariants.{Memory}
 use Rattle.ds_station.specs.declared.fault.Fault.TheVariants as fault
@@ -29,17 +29,11 @@ abbrev pub failure_number : Failure → ℕ
 failure_number (failure.UnreadableFile name) = 26
 failure_number (failure.UnreadableSource name) = 26
 failure_number (failure.NoProcess process) = 12
-failure_number (failure.Fault fault) = number_of fault
+failure_number (failure.Fault fault) = fault_number fault
 
 -- the failure for want of memory
 abbrev pub memory_failure : Failure
 memory_failure = failure.Fault Memory
-
--- the file of this name, which the words name, was not read: it is lacking, or memory ran out
-abbrev pub IsUnread : (List ℕ → Type 0) → List ℕ → Failure → Type 0
-IsUnread lacks name (failure.UnreadableFile told) = (told.now ≡ name) × lacks name
-IsUnread lacks name (failure.Fault Memory) = ⊤
-IsUnread lacks name f = ⊥
 
 -- this file may be read
 abbrev pub MayBeRead : (List ℕ → List ℕ → Type 0) → List ℕ → Type 0
@@ -48,21 +42,6 @@ MayBeRead holds file = (bytes : List ℕ) × holds file bytes
 -- this is one of these names, and the files of those before it may be read
 abbrev pub IsNext : (List ℕ → List ℕ → Type 0) → List (List ℕ) → List ℕ → Type 0
 IsNext holds names name = (among : Contains names name) × All (MayBeRead holds) (take among.0 names)
-
--- the file of one of these sources was not read, and those before it were
-abbrev pub AreUnread : (List ℕ → List ℕ → Type 0) → (List ℕ → Type 0) → List (List ℕ) → Failure → Type 0
-AreUnread holds lacks names (failure.UnreadableSource told) = IsNext holds names told × lacks told
-AreUnread holds lacks names (failure.Fault Memory) = ⊤
-AreUnread holds lacks names f = ⊥
-
--- the name of this source leads out of the folder in which these sources have to be
-abbrev pub IsOutside : Bool → List (List ℕ) → Failure → Type 0
-IsOutside inside names (failure.UnreadableSource told) = outside_of inside names ≡ Some told
-IsOutside inside names f = ⊥
-
--- the name of one of these sources leads out of the folder in which they have to be; or none does, and the file of one was not read
-abbrev pub AreUntaken : Bool → (List ℕ → List ℕ → Type 0) → (List ℕ → Type 0) → List (List ℕ) → Failure → Type 0
-AreUntaken inside holds lacks names f = IsOutside inside names f ⊎ ((outside_of inside names ≡ None) × AreUnread holds lacks names f)
 
 -- the policy that this file holds names sources of which this one is not taken: its name leads out of the folder in which they have to be; or no name does, those before it may be read, and it is lacking
 pub record LeavesSource (inside : Bool) (holds : List ℕ → List ℕ → Type 0) (lacks : List ℕ → Type 0) (file name : List ℕ) : Type 0 where
@@ -116,13 +95,6 @@ pub record LacksProcess (holds : List ℕ → List ℕ → Type 0) (request : Re
   pub read : HoldsInputs holds request value sources input
   pub first : lacking_of (length value.processes) windows ≡ Some process
 
--- why not all that a run is made of is read: a file is lacking, memory ran out, or what was read is refused
-abbrev pub IsUnreadRun : Failure → (List ℕ → List ℕ → Type 0) → (List ℕ → Type 0) → Request → Type 0
-IsUnreadRun (failure.UnreadableFile name) holds lacks request = LacksFile holds lacks request name.now
-IsUnreadRun (failure.UnreadableSource name) holds lacks request = LacksSource holds lacks request name
-IsUnreadRun (failure.NoProcess process) holds lacks request = ⊥
-IsUnreadRun (failure.Fault fault) holds lacks request = (fault ≡ Memory) ⊎ OfHeld holds request (λ read. Refuses fault read)
-
 -- why each failure comes of what is done with the files of a run, and what it leaves: nothing is written before all files are read, nor where a process is wanted that `wanting` says is lacking, and without a run want of memory alone is told of as a fault; a run ends by a fault as `ends` has it
 abbrev pub FilesStop : (Fault → Result State Refusal → Type 0) → (ℕ → Type 0) → Failure → (List ℕ → List ℕ → Type 0) → (List ℕ → Type 0) → Request → Option (List ℕ) → Option (List ℕ) → Type 0
 FilesStop ends wanting (failure.UnreadableFile name) holds lacks request old new = LacksFile holds lacks request name.now × Keeps old new
@@ -134,7 +106,7 @@ FilesStop ends wanting (failure.Fault fault) holds lacks request old new = ((fau
 pub record WritesPartThen (windows : List Window) (old new : Option (List ℕ)) (n : ℕ) (first : State) : Type 0 where
   pub last : State
   pub prefix : IsPrefix n first last
-  pub written : AppendsPart old new (text_of last ++ windows_text last windows)
+  pub written : AppendsPart old new (state_text last ++ windows_text last windows)
 
 -- this of the files
 abbrev pub CutsFiles : (List ℕ → List ℕ → Type 0) → RunRequest → Option (List ℕ) → Option (List ℕ) → Type 0

@@ -1,5 +1,4 @@
 pub mod AtFault
-pub mod BareOrder
 pub mod BareRuns
 pub mod Demo
 pub mod Listed
@@ -22,4 +21,5 @@ pub mod Statuses
 pub mod Told
 pub mod TraceRuns
 pub mod Windows
-pub mod Worked
+pub mod Inner
+pub mod Rows

@@ -3,8 +3,6 @@ use Rattle.std.specs.Prelude.{◌≡◌, ℕ, List, Bool, true, false, Option, R
 use Rattle.std.specs.Io.KnownBytes.{Keeps, Appends}
 use Rattle.ds_asm.specs.declared.fault.SourceFault.{SourceFault}
 use Rattle.ds_asm.specs.Faults.{all_faults}
-use Rattle.ds_listing.specs.declared.annotated.Listed.{Listed}
-use Rattle.ds_listing.specs.declared.annotated.Listed.TheVariants as came
 use Rattle.ds_listing.specs.Listing.{listing_of}
 use Rattle.ds_listing.specs.NamedTexts.{file_as}
 use Rattle.ds_listing.specs.declared.names.RegisterNames.{RegisterNames}
@@ -12,19 +10,12 @@ use Rattle.ds_log.specs.Sent.{AppendsPart}
 use Rattle.ds_station.specs.declared.fault.Fault.TheVariants as fault
 use Rattle.ds_drive.specs.declared.failure.Failure.{Failure}
 use Rattle.ds_drive.specs.declared.failure.Failure.TheVariants as failure
-use Rattle.ds_drive.specs.declared.list.Listing.{Listing}
-use Rattle.ds_drive.specs.declared.list.Listing.TheVariants as listing
 use Rattle.ds_words.specs.declared.words.ListRequest.{ListRequest}
 
 -- the source of a file, with registers called by these names; or the listing of a source, or its first fault
 abbrev pub listed : RegisterNames → Bool → List ℕ → Result (List ℕ) SourceFault
 listed names true bytes = Ok (file_as names bytes)
 listed names false text = listing_of text
-
--- what comes of it: the text, or all faults of the source, of which it has one at least
-abbrev pub IsListed : RegisterNames → Bool → List ℕ → Listed → Type 0
-IsListed names words bytes (came.Sheet sheet) = listed names words bytes ≡ Ok sheet.items
-IsListed names words bytes (came.Faults faults) = (fault : SourceFault) × (words ≡ false) × (listed names words bytes ≡ Err fault) × (faults.items ≡ all_faults bytes)
 
 -- the named file holds bytes that are listed so, and of their listing this holds
 pub record OfListing (holds : List ℕ → List ℕ → Type 0) (request : ListRequest) (P : List ℕ → Type 0) : Type 0 where
@@ -49,11 +40,6 @@ pub record HasFaults (holds : List ℕ → List ℕ → Type 0) (request : ListR
   pub first : SourceFault
   pub refused : listed request.names request.words text ≡ Err first
   pub all : faults ≡ all_faults text
-
--- what comes of a listing: it is written, or the faults are all that the source has, and nothing is
-abbrev pub Lists : Listing → (List ℕ → List ℕ → Type 0) → ListRequest → Option (List ℕ) → Option (List ℕ) → Type 0
-Lists listing.Written holds request old new = ListsFile holds request old new
-Lists (listing.Faults source) holds request old new = HasFaults holds request source.text.items source.faults.items × Keeps old new
 
 -- why each failure comes, and what it leaves
 abbrev pub FailsBy : Failure → (List ℕ → List ℕ → Type 0) → (List ℕ → Type 0) → ListRequest → Option (List ℕ) → Option (List ℕ) → Type 0

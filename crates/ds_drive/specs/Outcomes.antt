@@ -16,12 +16,6 @@ use Rattle.ds_drive.specs.declared.outcome.Came.{Came}
 use Rattle.ds_drive.specs.declared.outcome.Came.TheVariants as came
 use Rattle.ds_drive.specs.declared.outcome.Outcome.{Outcome}
 
--- the status by what a run came to
-abbrev pub came_status : Came → ℕ
-came_status came.Done = 0
-came_status came.Unended = 4
-came_status came.TooMuch = 3
-
 -- how a run was left: how far it went, the station, and a state that the station stands for
 pub record Left : Type 0 where
   pub extent : Extent
@@ -66,11 +60,6 @@ has_window (w ∷ windows) = true
 -- the words want something beside the text of the run
 abbrev pub wants_more : Extras → Bool
 wants_more extras = extras.must_end || (extras.summary || has_window (windows_in extras.memory))
-
--- so, or it was left with too much
-abbrev pub is_more : Extras → Extent → Bool
-is_more extras extent.Whole = wants_more extras
-is_more extras extent.TooMuch = true
 
 -- after the text of a run that was left so, the lines of the windows are written; it came to this, of which the summary is told and then the line
 pub record IsFollowed (extras : Extras) (summary : List ℕ) (o : Outcome) (between new : Option (List ℕ)) (l : Left) : Type 0 where

@@ -87,6 +87,6 @@ reason_place text reason.RuleCount = array_place text (codes "rule") Rules 1000
 reason_place text (reason.Rule number cause) = rule_place text number cause
 
 -- where it does, if there is a reason
-abbrev pub place_of : List ℕ → Option PolicyReason → Option Place
-place_of text None = None
-place_of text (Some why) = reason_place text why
+abbrev pub place_of_reason : List ℕ → Option PolicyReason → Option Place
+place_of_reason text None = None
+place_of_reason text (Some why) = reason_place text why

@@ -2,15 +2,15 @@
 use Rattle.std.specs.Prelude.{◌≡◌, ◌<◌, ◌≤◌, ⊤, ℕ, Bool, List, Option, Some, None, Result}
 use Rattle.std.specs.Io.KnownBytes.{Appends}
 use Rattle.ds_policy.specs.Value.{PolicyValue}
-use Rattle.ds_pagemap.specs.Inputs.{Refusal, Sources, inputs, inputs_by, inputs_under, inputs_under_by}
+use Rattle.ds_pagemap.specs.Inputs.{Refusal, Sources, inputs, inputs_by, inputs_under}
 use Rattle.ds_pagemap.specs.Machine.{State}
 use Rattle.ds_pagemap.specs.Run.{Ends, Reaches}
-use Rattle.ds_pagemap.specs.Text.{text_of}
+use Rattle.ds_pagemap.specs.Text.{state_text}
 use Rattle.ds_refinement.specs.Held.{Held}
 use Rattle.ds_refinement.specs.Stands.{Stands}
 use Rattle.ds_station.specs.Alone.{WritesEachAlone}
-use Rattle.ds_station.specs.Headline.{Along, Begins, Followed, Loaded, Writes, WritesReally, loaded}
-use Rattle.ds_station.specs.Pieces.{ComesReally, size_of}
+use Rattle.ds_station.specs.Headline.{Along, Begins, Followed, Loaded, Writes, WritesReally, loaded_with}
+use Rattle.ds_station.specs.Pieces.{ComesReally, size_of_state}
 use Rattle.ds_station.specs.Written.{WritesWholeGuarded}
 use Rattle.ds_station.specs.declared.pieces.Extent.TheVariants.{Whole, TooMuch}
 use Rattle.ds_trace.specs.Traces.{WritesTraceBy, WritesTraceReally, counts_along}
@@ -32,15 +32,11 @@ pub record OfHeldBoth (holds : List ℕ → List ℕ → Type 0) (request : Requ
   pub sources : Sources
   pub input : List ℕ
   pub held : AreHeld holds request policy sources input
-  pub so : P (inputs policy sources input request.most_time request.random) (inputs_by loaded policy sources input request.most_time request.random)
+  pub so : P (inputs policy sources input request.most_time request.random) (inputs_by loaded_with policy sources input request.most_time request.random)
 
 -- the first state of a run under a policy, as the words ask for the run
 abbrev pub first_by : PolicyValue → Sources → List ℕ → Request → Result State Refusal
 first_by policy sources input request = inputs_under policy sources input request.most_time request.random
-
--- and what it begins with
-abbrev pub begun_by : PolicyValue → Sources → List ℕ → Request → Result Loaded Refusal
-begun_by policy sources input request = inputs_under_by loaded policy sources input request.most_time request.random
 
 -- what a writer held before a run, after the text of the run, and now, where that is known
 pub record Writing : Type 0 where
@@ -55,16 +51,16 @@ writing old between new = record { old = old; between = between; new = new }
 -- consoles and log have no more bytes than these, where there is such a bound
 abbrev pub IsWithin : Option ℕ → State → Type 0
 IsWithin None m = ⊤
-IsWithin (Some most) m = size_of m ≤ most
+IsWithin (Some most) m = size_of_state m ≤ most
 
 -- what is told of a run for n that came by these choices to where the station is: with what was counted of all its turns; under a bound of bytes no turn is counted
-abbrev pub told_by : Option ℕ → ℕ → List Bool → Held → State → List ℕ
-told_by None n choices h first = summed_text n first.characters (counts_along whole n choices first) h
-told_by (Some most) n choices h first = account_text n h
+abbrev pub run_told : Option ℕ → ℕ → List Bool → Held → State → List ℕ
+run_told None n choices h first = summed_text n first.characters (counts_along whole n choices first) h
+run_told (Some most) n choices h first = account_text n h
 
 -- the summary of such a run, if the words want one
 abbrev pub run_summary : RunRequest → List Bool → Held → State → List ℕ
-run_summary request choices h first = where_asked request.extras.summary (told_by request.most request.run.most_time choices h first)
+run_summary request choices h first = where_asked request.extras.summary (run_told request.most request.run.most_time choices h first)
 
 -- of a trace, with what was counted of the turns that the words want
 abbrev pub trace_summary : TraceRequest → List Bool → Held → State → List ℕ
@@ -77,7 +73,7 @@ pub record EndsThen (request : RunRequest) (o : Outcome) (w : Writing) (first : 
   pub ends : Ends request.run.most_time first last
   pub few : IsWithin request.most last
   pub stands : Stands station last
-  pub written : Appends w.old w.between (text_of last)
+  pub written : Appends w.old w.between (state_text last)
   pub followed : IsFollowed request.extras (run_summary request ends.reached.choices station first) o w.between w.new (left Whole station last)
 
 -- a run was left between two turns in a state with more bytes than these, for which the station stands; its text so far is written, and then what the words want of that state
@@ -85,9 +81,9 @@ pub record LeavesThen (most : ℕ) (station : Held) (request : RunRequest) (o : 
   pub last : State
   pub reached : Reaches request.run.most_time first last
   pub whole : last.owed ≡ None
-  pub much : most < size_of last
+  pub much : most < size_of_state last
   pub stands : Stands station last
-  pub written : Appends w.old w.between (text_of last)
+  pub written : Appends w.old w.between (state_text last)
   pub followed : IsFollowed request.extras (run_summary request reached.choices station first) o w.between w.new (left TooMuch station last)
 
 -- a run has ended: what the machine did, what the processor did, and that the machine follows it; under a bound of bytes the former of these two is not told
@@ -103,10 +99,6 @@ pub record HasLeft (request : RunRequest) (o : Outcome) (w : Writing) (read : Re
   pub station : Held
   pub leaves : Begins read (LeavesThen most station request o w)
   pub real : Begins begun (ComesReally TooMuch request.run.most_time most request.run.random station)
-
--- so after some bytes
-abbrev pub IsEnded : RunRequest → Outcome → Option (List ℕ) → Option (List ℕ) → Result State Refusal → Result Loaded Refusal → Type 0
-IsEnded request o old new read begun = (between : Option (List ℕ)) × HasEnded request o (writing old between new) read begun
 
 -- a run has ended; it was guarded, and its text shows of each process that is alone in the first state what it does alone
 pub record IsRun (request : RunRequest) (o : Outcome) (old new : Option (List ℕ)) (read : Result State Refusal) (begun : Result Loaded Refusal) : Type 0 where

@@ -1,12 +1,11 @@
 -- Which files a command asks for, in which order, and what came of it.
-use Rattle.std.specs.Prelude.{◌≡◌, ◌⊎◌, ⊤, ℕ, Bool, true, List, [], ◌∷◌, ◌++◌, Option, None, Some, Result, Ok, Err, map}
+use Rattle.std.specs.Prelude.{◌≡◌, ◌⊎◌, ⊤, ℕ, List, [], ◌∷◌, ◌++◌, Option, None, Some, Result, Ok, Err, map}
 use Rattle.std.specs.Borrow.{Bor}
 use Rattle.clap.specs.Words.{Text}
 use Rattle.ds_policy.specs.PolicyParts.{sources_of}
 use Rattle.ds_policy.specs.PolicyText.{policy_of}
 use Rattle.ds_policy.specs.Refusal.{PolicyRefusal}
 use Rattle.ds_policy.specs.Value.{PolicyValue}
-use Rattle.ds_station.specs.declared.fault.Fault.TheVariants as fault
 use Rattle.ds_words.specs.Words.{AsksForBare, AsksForCheck, AsksForDebug, AsksForExplain, AsksForList, AsksForRun, AsksForTrace}
 use Rattle.ds_words.specs.declared.words.BareRequest.{BareRequest}
 use Rattle.ds_words.specs.declared.words.CheckRequest.{CheckRequest}
@@ -15,11 +14,8 @@ use Rattle.ds_words.specs.declared.words.ListRequest.{ListRequest}
 use Rattle.ds_words.specs.declared.words.Request.{Request}
 use Rattle.ds_words.specs.declared.words.RunRequest.{RunRequest}
 use Rattle.ds_words.specs.declared.words.TraceRequest.{TraceRequest}
-use Rattle.ds_drive.specs.declared.failure.Failure.{Failure}
-use Rattle.ds_drive.specs.declared.failure.Failure.TheVariants as failure
 use Rattle.ds_drive.specs.declared.files.FileFault.{FileFault}
 use Rattle.ds_drive.specs.declared.files.FileFault.TheVariants as file
-use Rattle.ds_drive.specs.Inside.{is_outside}
 
 -- a file that was asked for: its name, and why it was not read, where it was not
 abbrev pub AskedFile : Type 0
@@ -56,20 +52,6 @@ pub record ReadsUntil (P : Option (List ℕ × FileFault) → Type 0) (names : L
   pub has : HasAsked old new asked
   pub in_order : AreInOrder P names asked
 
--- the failure tells of the file that was not read; and where each was read, of none
-abbrev pub TellsOf : Failure → Option (List ℕ × FileFault) → Type 0
-TellsOf (failure.Fault fault) None = ⊤
-TellsOf (failure.NoProcess process) None = ⊤
-TellsOf (failure.Fault fault.Memory) (Some (name, file.Memory)) = ⊤
-TellsOf (failure.UnreadableFile told) (Some (name, file.Unreadable)) = told.now ≡ name
-TellsOf (failure.UnreadableSource told) (Some (name, file.Unreadable)) = told ≡ name
-TellsOf f unread = ⊥
-
--- so of a run; where it tells of a source that is outside the folder in which it has to be, each was read that was asked for
-abbrev pub TellsOfRun : Bool → Failure → Option (List ℕ × FileFault) → Type 0
-TellsOfRun inside (failure.UnreadableSource told) None = is_outside inside told ≡ true
-TellsOfRun inside f unread = TellsOf f unread
-
 -- the sources that a policy names; none where it is refused
 abbrev pub sources_in : Result PolicyValue PolicyRefusal → List (List ℕ)
 sources_in (Ok value) = sources_of value.pages
@@ -87,12 +69,6 @@ bare_names request = request.source.now ∷ input_names request.keys
 -- the files of a run: the policy's, then the input's, then those of the sources that a policy with this text names
 abbrev pub run_names : List ℕ → List (List ℕ) → List ℕ → List (List ℕ)
 run_names policy input text = policy ∷ (input ++ sources_in (policy_of text))
-
--- the files of a run were read, the policy's as a text that names the sources
-pub record ReadsRun (holds : List ℕ → List ℕ → Type 0) (policy : List ℕ) (input : List (List ℕ)) (old new : Option (List AskedFile)) : Type 0 where
-  pub text : List ℕ
-  pub held : holds policy text
-  pub all : ReadsAll (run_names policy input text) old new
 
 -- the files of a run were asked for up to some place: the policy's alone, or those that a text of it names
 pub record ReadsRunUntil (P : Option (List ℕ × FileFault) → Type 0) (holds : List ℕ → List ℕ → Type 0) (policy : List ℕ) (input : List (List ℕ)) (old new : Option (List AskedFile)) : Type 0 where

@@ -7,7 +7,6 @@ use Rattle.ds_check.specs.declared.places.Place.{Place}
 use Rattle.ds_check.specs.Carets.{caret_line, place_shown}
 use Rattle.ds_check.specs.Lines.{line_at, shown_line}
 use Rattle.ds_check.specs.Mending.{mended}
-use Rattle.ds_source_reasons.specs.declared.fault.FaultyLines.{FaultyLines}
 use Rattle.ds_policy_reasons.specs.CausePlaces.{cause_place}
 use Rattle.ds_policy.specs.declared.events.cause.InputCause.{InputCause}
 use Rattle.ds_policy_reasons.specs.Texts.{input_cause_text, policy_reason_text}
@@ -16,7 +15,7 @@ use Rattle.ds_policy.specs.declared.cause.PolicyReason.TheVariants as reason
 use Rattle.ds_source_reasons.specs.Carets.{caret_place}
 use Rattle.ds_source_reasons.specs.Missing.{last_word, last_word_place, like_label, missing_text}
 use Rattle.ds_source_reasons.specs.Reasons.{or_next}
-use Rattle.ds_source_reasons.specs.Told.{FaultReason, after_line, after_lines, fault_text, line_in, reason_at}
+use Rattle.ds_source_reasons.specs.Told.{FaultReason, after_line, after_lines, fault_text, line_in, fault_reason_at}
 use Rattle.ds_station.specs.declared.fault.Fault.{Fault}
 use Rattle.ds_station.specs.declared.fault.Fault.TheVariants as fault
 use Rattle.ds_drive.specs.declared.failure.Failure.{Failure}
@@ -46,21 +45,17 @@ pub record Passed : Type 0 where
 abbrev pub none_passed : List ℕ → Passed
 none_passed text = record { lines = 0; rest = text }
 
--- the same of the code's lines
-abbrev pub passed_in : FaultyLines → Passed
-passed_in l = record { lines = l.passed; rest = l.rest.now }
-
 -- how many lines stand between those that were passed and the line of a fault
-abbrev pub lines_between : Passed → SourceFault → ℕ
-lines_between p fault = source_fault_line fault - p.lines - 1
+abbrev pub count_between : Passed → SourceFault → ℕ
+count_between p fault = source_fault_line fault - p.lines - 1
 
 -- the reason of a fault after those lines
 abbrev pub reason_after : Passed → SourceFault → Option FaultReason
-reason_after p fault = reason_at (lines_between p fault) fault p.rest
+reason_after p fault = fault_reason_at (count_between p fault) fault p.rest
 
 -- the lines up to that of a fault were passed, too
 abbrev pub pass : Passed → SourceFault → Passed
-pass p fault = record { lines = source_fault_line fault; rest = after_line (after_lines (lines_between p fault) p.rest) }
+pass p fault = record { lines = source_fault_line fault; rest = after_line (after_lines (count_between p fault) p.rest) }
 
 -- what stands at the end of a fault's line: the first line of its reason's words, where it has a reason
 abbrev pub at_end : Option FaultReason → List ℕ
@@ -116,14 +111,14 @@ abbrev pub fault_shown_in : List ℕ → Option FaultReason → SourceFault → 
 fault_shown_in text why fault = shown_line text (source_fault_line fault) ++ told_below text (line_at text (source_fault_line fault)) why fault
 
 -- the line that tells of a fault: what it begins with, the number of the source's line, and the reason; and below it the source's line with a caret, and how the fault is mended
-abbrev pub told_line : List ℕ → List ℕ → List ℕ → Option FaultReason → SourceFault → List ℕ
-told_line front place text why fault =
+abbrev pub fault_line : List ℕ → List ℕ → List ℕ → Option FaultReason → SourceFault → List ℕ
+fault_line front place text why fault =
     fault_head front place fault ++ (decimal (source_fault_line fault) ++ (at_end why ++ (codes "\n" ++ (fault_shown_in text why fault ++ mending_of why fault))))
 
 -- the lines that tell of faults of a source after some lines, each with its reason
 unfoldable pub told_lines : List ℕ → List ℕ → List ℕ → Passed → List SourceFault → List ℕ
 told_lines front place text p [] = []
-told_lines front place text p (fault ∷ faults) = told_line front place text (reason_after p fault) fault ++ told_lines front place text (pass p fault) faults
+told_lines front place text p (fault ∷ faults) = fault_line front place text (reason_after p fault) fault ++ told_lines front place text (pass p fault) faults
 
 -- the faults of a file with this source, as a listing tells them, and that it is a policy where it reads as one
 abbrev pub listed_faults : List ℕ → List ℕ → List SourceFault → List ℕ
@@ -202,14 +197,14 @@ input_shown None = []
 input_shown (Some input) = cause_shown input.text.items input.line input.cause
 
 -- the reason of the first fault of a source, where there is one
-abbrev pub first_reason : List ℕ → Option SourceFault → Option FaultReason
-first_reason text None = None
-first_reason text (Some first) = reason_after (none_passed text) first
+abbrev pub first_fault_reason : List ℕ → Option SourceFault → Option FaultReason
+first_fault_reason text None = None
+first_fault_reason text (Some first) = reason_after (none_passed text) first
 
 -- why the first line of a source is at fault, where one is
 abbrev pub why_source : Option FaultySource → Option (List ℕ)
 why_source None = None
-why_source (Some source) = option_map fault_text (first_reason source.text.items (slice_get source.faults.items 0))
+why_source (Some source) = option_map fault_text (first_fault_reason source.text.items (slice_get source.faults.items 0))
 
 -- which process or which page of a policy a reason is of; a rule's number stands in the line of the failure
 abbrev pub which_of : PolicyReason → List ℕ

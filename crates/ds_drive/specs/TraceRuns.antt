@@ -2,11 +2,10 @@
 use Rattle.std.specs.Prelude.{◌≡◌, ◌⊎◌, ◌++◌, ℕ, true, List, Option, Result}
 use Rattle.std.specs.Io.KnownBytes.{Keeps}
 use Rattle.ds_log.specs.Sent.{AppendsPart}
-use Rattle.ds_pagemap.specs.Inputs.{Refusal, Sources}
+use Rattle.ds_pagemap.specs.Inputs.{Refusal}
 use Rattle.ds_pagemap.specs.Machine.{State}
 use Rattle.ds_pagemap.specs.Run.{Reaches}
-use Rattle.ds_pagemap.specs.Text.{text_of}
-use Rattle.ds_policy.specs.Value.{PolicyValue}
+use Rattle.ds_pagemap.specs.Text.{state_text}
 use Rattle.ds_station.specs.Headline.{Begins, Refuses}
 use Rattle.ds_station.specs.declared.fault.Fault.{Fault}
 use Rattle.ds_station.specs.declared.fault.Fault.TheVariants as fault
@@ -17,7 +16,7 @@ use Rattle.ds_words.specs.declared.words.TraceRequest.{TraceRequest}
 use Rattle.ds_drive.specs.declared.failure.Failure.{Failure}
 use Rattle.ds_drive.specs.Failures.{FilesStop, LacksProcess, OfHeld}
 use Rattle.ds_drive.specs.Outcomes.{wants_more}
-use Rattle.ds_drive.specs.Placed.{OfPlaced, WithPlaced}
+use Rattle.ds_drive.specs.Placed.{OfPlaced}
 use Rattle.ds_drive.specs.Windows.{windows_text}
 
 -- a run came somewhere, and a front of its trace, of its text and of the lines of the windows is written
@@ -26,7 +25,7 @@ pub record TracesPartThen (request : TraceRequest) (old new : Option (List ℕ))
   pub reached : Reaches request.run.most_time first last
   pub processor : List ℕ
   pub processed : TellsProcessor request.view request.run.most_time first last processor
-  pub written : AppendsPart old new (told_to request.view request.run.most_time first last reached processor ++ (text_of last ++ windows_text last (windows_in request.extras.memory)))
+  pub written : AppendsPart old new (told_to request.view request.run.most_time first last reached processor ++ (state_text last ++ windows_text last (windows_in request.extras.memory)))
 
 -- this of the files
 abbrev pub CutsTrace : (List ℕ → List ℕ → Type 0) → TraceRequest → Option (List ℕ) → Option (List ℕ) → Type 0
@@ -38,11 +37,6 @@ TraceEndsThenBy fault.Memory request read old new =
     TraceEndsBy fault.Memory request.view read old new request.run.most_time ⊎ ((wants_more request.extras ≡ true) × Begins read (TracesPartThen request old new))
 TraceEndsThenBy fault.WriteFault request read old new = Begins read (TracesPartThen request old new)
 TraceEndsThenBy f request read old new = TraceEndsBy f request.view read old new request.run.most_time
-
--- a fault of a trace under a policy: want of memory, and nothing is written, or it comes of the trace with the lines of the sources
-abbrev pub PlacedTraceEnds : PolicyValue → Sources → TraceRequest → Option (List ℕ) → Option (List ℕ) → Fault → Result State Refusal → Type 0
-PlacedTraceEnds value sources request old new f read =
-    ((f ≡ fault.Memory) × Keeps old new) ⊎ WithPlaced value sources request (λ told. TraceEndsThenBy f told read old new)
 
 -- a fault of a trace of files: their inputs are refused, and nothing is written, or it comes of the trace with the lines of their sources
 abbrev pub FilesTraceEnds : (List ℕ → List ℕ → Type 0) → TraceRequest → Option (List ℕ) → Option (List ℕ) → Fault → Result State Refusal → Type 0

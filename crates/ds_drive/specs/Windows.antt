@@ -15,9 +15,9 @@ abbrev pub window_lines : ℕ → PageState → Window → List ℕ
 window_lines n s w = if nat_le w.process n then memory_text s w.process w.address w.count else []
 
 -- those of windows, in their order
-abbrev pub lines_in : ℕ → PageState → List Window → List ℕ
-lines_in n s windows = flat_map (window_lines n s) windows
+abbrev pub window_lines_in : ℕ → PageState → List Window → List ℕ
+window_lines_in n s windows = flat_map (window_lines n s) windows
 
 -- those of windows of a state
 abbrev pub windows_text : State → List Window → List ℕ
-windows_text m windows = lines_in (length m.processes) m.memory windows
+windows_text m windows = window_lines_in (length m.processes) m.memory windows

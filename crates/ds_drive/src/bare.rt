@@ -1,8 +1,10 @@
 //! A source run on the bare machine.
 ghost use Rattle.std.specs.Prelude.{◌≡◌, ℕ, List, IfErr, IfOk, OnOk};
-ghost use Rattle.ds_drive.specs.BareOrder.{IsRefusedAfter};
-ghost use Rattle.ds_drive.specs.BareRuns.{RunsOrIsFaulty, BareFailsBy, of_bare};
-ghost use Rattle.ds_drive.specs.Reading.{ReadsAll, ReadsUntil, TellsOf, bare_names};
+ghost use Rattle.ds_drive.specs.Inner.BareOrder.{IsRefusedAfter};
+ghost use Rattle.ds_drive.specs.BareRuns.{BareFailsBy};
+ghost use Rattle.ds_drive.specs.Inner.BareRuns.{RunsOrIsFaulty, of_bare};
+ghost use Rattle.ds_drive.specs.Reading.{ReadsAll, ReadsUntil, bare_names};
+ghost use Rattle.ds_drive.specs.Inner.Reading.{TellsOf};
 
 use crate::check::input_of;
 use crate::failure::Failure;

@@ -1,10 +1,12 @@
 //! A policy, its sources and an input checked and explained.
 ghost use Rattle.std.specs.Prelude.{◌≡◌, ◌⊎◌, ◌<◌, ◌++◌, ℕ, List, IfErr, IfOk, OnOk, OnErr};
 ghost use Rattle.std.specs.Io.KnownBytes.{Keeps};
-ghost use Rattle.ds_drive.specs.AtFault.{texts_seen};
+ghost use Rattle.ds_drive.specs.Inner.AtFault.{texts_seen};
 ghost use Rattle.ds_drive.specs.Noted.{input_notes};
-ghost use Rattle.ds_drive.specs.Checked.{AreGood, Checks, ChecksBy, IsInput, RefusesCheck, IsUnreadInput, are_faults, with_notes, with_ties};
-ghost use Rattle.ds_drive.specs.Reading.{ReadsAll, ReadsRun, ReadsRunUntil, ReadsUntil, TellsOf, TellsOfRun, input_names};
+ghost use Rattle.ds_drive.specs.Checked.{AreGood, ChecksBy, IsInput, RefusesCheck, are_faults, with_notes, with_ties};
+ghost use Rattle.ds_drive.specs.Inner.Checked.{Checks, IsUnreadInput};
+ghost use Rattle.ds_drive.specs.Reading.{ReadsAll, ReadsRunUntil, ReadsUntil, input_names};
+ghost use Rattle.ds_drive.specs.Inner.Reading.{ReadsRun, TellsOf, TellsOfRun};
 
 use crate::failure::Failure;
 use crate::files::Files;

@@ -2,8 +2,9 @@
 ghost use Rattle.std.specs.Prelude.{◌≡◌, ◌∷◌, ℕ, List, [], IfErr, IfOk, OnOk, codes};
 ghost use Rattle.ds_debug.specs.Serving.{pipes};
 ghost use Rattle.ds_drive.specs.Debugged.{DebugStopsBy, HasDebugged};
-ghost use Rattle.ds_drive.specs.Listening.{Tells, listener};
-ghost use Rattle.ds_drive.specs.Reading.{ReadsRun, ReadsRunUntil, TellsOfRun};
+ghost use Rattle.ds_drive.specs.Listening.{IsToldText, listener};
+ghost use Rattle.ds_drive.specs.Reading.{ReadsRunUntil};
+ghost use Rattle.ds_drive.specs.Inner.Reading.{ReadsRun, TellsOfRun};
 
 use crate::failure::Failure;
 use crate::files::Files;
@@ -58,7 +59,7 @@ pub fn debug_files<'a, F: Files, R: Read, W: Write>(
 #[tactic(auto, using(crate::proofs::Heard::told_so))]
 pub(crate) fn tell_unread<E: Output>(err: &mut E) -> u8
     ensures status { result ≡ 3 }
-    ensures told { Tells (listener (E.contents err.old) (E.contents err.new)
+    ensures told { IsToldText (listener (E.contents err.old) (E.contents err.new)
         (E.answers err.old) (E.answers err.new))
         (codes "dsmon: standard input could not be read\n") }
 {

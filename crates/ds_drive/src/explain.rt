@@ -1,9 +1,10 @@
 //! A run of files whose log is explained.
 ghost use Rattle.std.specs.Prelude.{◌≡◌, ◌∷◌, ℕ, List, [], IfErr, IfOk, OnOk};
-ghost use Rattle.ds_drive.specs.AtFault.{texts_seen};
+ghost use Rattle.ds_drive.specs.Inner.AtFault.{texts_seen};
 ghost use Rattle.ds_drive.specs.ExplainedLogs.{ExplainStopsBy, HasExplained, chosen_by};
 ghost use Rattle.ds_drive.specs.Noted.{image_of, images_of};
-ghost use Rattle.ds_drive.specs.Reading.{ReadsRun, ReadsRunUntil, TellsOfRun};
+ghost use Rattle.ds_drive.specs.Reading.{ReadsRunUntil};
+ghost use Rattle.ds_drive.specs.Inner.Reading.{ReadsRun, TellsOfRun};
 
 use crate::failure::Failure;
 use crate::files::Files;

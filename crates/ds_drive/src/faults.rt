@@ -1,11 +1,12 @@
 //! The faults of a source, told a line each.
 ghost use Rattle.std.specs.Prelude.{◌≡◌, ◌++◌, IfOk, OnOk, OnErr, option_map, take};
 ghost use Rattle.std.specs.Io.KnownBytes.{Appends};
-ghost use Rattle.ds_drive.specs.Told.{at_end, caret_below, fault_head, fault_name, fault_shown_in, label_told, mending_of, pass, passed_in, plain_place, reason_after, told_below, told_line, told_lines, wrong_place};
-ghost use Rattle.ds_drive.specs.Listening.{is_unwritten};
+ghost use Rattle.ds_drive.specs.Told.{at_end, caret_below, fault_head, fault_name, fault_shown_in, label_told, mending_of, pass, plain_place, reason_after, told_below, fault_line, told_lines, wrong_place};
+ghost use Rattle.ds_drive.specs.Inner.Told.{passed_in};
+ghost use Rattle.ds_drive.specs.Inner.Listening.{is_unwritten};
 ghost use Rattle.ds_drive.specs.declared.faults.Untold.TheVariants as variants;
 ghost use Rattle.ds_log.specs.Sent.{AppendsPart, IsAskedOnce};
-ghost use Rattle.ds_source_reasons.specs.Told.{plain_fault};
+ghost use Rattle.ds_source_reasons.specs.Inner.Told.{plain_fault};
 
 use crate::why::push_mending;
 use ds_asm::{SourceFault, first_line};
@@ -124,7 +125,7 @@ fn push_told<'a, 's>(
 ) -> Result<(), AllocError>
     requires { lines.old ≡ wording.text.now }
     ensures text { OnOk result (sheet.new.items ≡ sheet.old.items
-        ++ told_line wording.entry.front.now wording.entry.place.now wording.entry.text.now
+        ++ fault_line wording.entry.front.now wording.entry.place.now wording.entry.text.now
         (reason_after (passed_in reasons.old) fault.now) fault.now) }
     ensures same { lines.new ≡ lines.old }
     ensures passed { passed_in reasons.new ≡ pass (passed_in reasons.old) fault.now }

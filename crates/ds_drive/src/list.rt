@@ -1,11 +1,15 @@
 //! A file listed: a source with its bytes, or the words of a file as a source.
 ghost use Rattle.std.specs.Io.KnownBytes.{Appends};
 ghost use Rattle.std.specs.Prelude.{◌≡◌, ◌∷◌, ◌++◌, ℕ, List, [], IfErr, IfOk, OnErr, OnOk};
-ghost use Rattle.ds_drive.specs.Listed.{IsListed, Lists, FailsBy};
+ghost use Rattle.ds_drive.specs.Listed.{FailsBy};
+ghost use Rattle.ds_drive.specs.Inner.Listed.{IsListed, Lists};
 ghost use Rattle.ds_drive.specs.Hints.{source_hint};
-ghost use Rattle.ds_drive.specs.Listening.{TellsSome, is_unwritten, listener};
-ghost use Rattle.ds_drive.specs.Reading.{ReadsAll, ReadsUntil, TellsOf};
-ghost use Rattle.ds_drive.specs.Told.{listed_faults, none_passed, passed_in, told_lines};
+ghost use Rattle.ds_drive.specs.Listening.{TellsSome, listener};
+ghost use Rattle.ds_drive.specs.Inner.Listening.{is_unwritten};
+ghost use Rattle.ds_drive.specs.Reading.{ReadsAll, ReadsUntil};
+ghost use Rattle.ds_drive.specs.Inner.Reading.{TellsOf};
+ghost use Rattle.ds_drive.specs.Told.{listed_faults, none_passed, told_lines};
+ghost use Rattle.ds_drive.specs.Inner.Told.{passed_in};
 ghost use Rattle.ds_log.specs.Sent.{AppendsPart, IsAskedOnce};
 
 use crate::failure::Failure;

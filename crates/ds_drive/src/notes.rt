@@ -3,8 +3,8 @@ ghost use Rattle.std.specs.Prelude.{◌≡◌, ◌++◌, ◌∷◌, [], IfOk, On
 ghost use Rattle.std.specs.List.{flat_map};
 ghost use Rattle.ds_policy.specs.InputText.{input_of};
 ghost use Rattle.ds_policy.specs.Value.{InputValue};
-ghost use Rattle.ds_drive.specs.AtFault.{texts_seen};
-ghost use Rattle.ds_drive.specs.Listening.{Tells, listener};
+ghost use Rattle.ds_drive.specs.Inner.AtFault.{texts_seen};
+ghost use Rattle.ds_drive.specs.Listening.{IsToldText, listener};
 ghost use Rattle.ds_drive.specs.Noted.{guest_notes, image_of, images_of, input_notes, source_notes, starts_of};
 
 use crate::run::{SourceText, lent};
@@ -85,7 +85,7 @@ fn guests_of(alloc: Global, texts: &[SourceText]) -> Result<Guests, OutOfMemory>
     let mut images = Vec::new(alloc);
     let mut notes = Vec::new(alloc);
     for source in texts {
-        let image = image_of(alloc, &source.text)?;
+        let image = image_by_name(alloc, &source.text)?;
         push_source(alloc, &mut notes, source, &image)?;
         push_image(&mut images, image)?;
     }
@@ -93,7 +93,7 @@ fn guests_of(alloc: Global, texts: &[SourceText]) -> Result<Guests, OutOfMemory>
 }
 
 /// The image of a source. One that has none is taken for want of memory: it was assembled before.
-fn image_of(alloc: Global, text: &[u8]) -> Result<Image, OutOfMemory>
+fn image_by_name(alloc: Global, text: &[u8]) -> Result<Image, OutOfMemory>
     ensures { IfOk result (λ image. image ≡ image_of text.now) }
 {
     match assemble(alloc, text) {
@@ -131,7 +131,7 @@ fn push_image(images: &mut Vec<Image>, image: Image) -> Result<(), AllocError>
 #[tactic(auto, using(crate::proofs::Heard::told_so))]
 pub fn tell_notes<E: Output>(err: &mut E, notes: &[u8]) -> u8
     ensures status { result ≡ 2 }
-    ensures told { Tells (listener (E.contents err.old) (E.contents err.new)
+    ensures told { IsToldText (listener (E.contents err.old) (E.contents err.new)
         (E.answers err.old) (E.answers err.new)) notes.now }
 {
     let _ = send(err, notes);

@@ -1,15 +1,16 @@
 //! What a run came to, and what is told of it.
 ghost use Rattle.std.specs.Prelude.{◌≡◌, ◌≢◌, ◌≤◌, ◌++◌, [], IfErr, IfOk, OnErr, OnOk, true};
 ghost use Rattle.std.specs.List.{All};
-ghost use Rattle.ds_drive.specs.Listening.{Tells, listener};
-ghost use Rattle.ds_drive.specs.Outcomes.{IsFollowed, came_of, came_status, end_told, is_more, left, wants_more, where_asked, where_wanted};
+ghost use Rattle.ds_drive.specs.Listening.{IsToldText, listener};
+ghost use Rattle.ds_drive.specs.Outcomes.{IsFollowed, came_of, end_told, left, wants_more, where_asked, where_wanted};
+ghost use Rattle.ds_drive.specs.Inner.Outcomes.{came_status, is_more};
 ghost use Rattle.ds_drive.specs.Windows.{windows_text};
 ghost use Rattle.ds_log.specs.Sent.{AppendsPart};
 ghost use Rattle.ds_pagemap.specs.Machine.{State};
 ghost use Rattle.ds_refinement.specs.Stands.{Stands};
 ghost use Rattle.ds_station.specs.Outcome.{first_unended};
 ghost use Rattle.ds_trace.specs.Accounts.{account_text};
-ghost use Rattle.ds_trace.specs.Handed.{IsLate};
+ghost use Rattle.ds_trace.specs.Inner.Handed.{IsLate};
 ghost use Rattle.ds_words.specs.Windows.{IsWindow, windows_in};
 
 use crate::status::{DONE, RUN_FAILED, UNENDED};
@@ -59,7 +60,7 @@ pub(crate) fn tell_outcome<E: Output>(err: &mut E, outcome: &Outcome) -> u8
     ensures few { result ≤ 4 }
     ensures not_words { result ≢ 1 }
     ensures not_input { result ≢ 2 }
-    ensures told { Tells (listener (E.contents err.old) (E.contents err.new)
+    ensures told { IsToldText (listener (E.contents err.old) (E.contents err.new)
         (E.answers err.old) (E.answers err.new))
         outcome.now.told.items }
     ensures silent { outcome.now.told.items ≡ [] → E.contents err.new ≡ E.contents err.old }

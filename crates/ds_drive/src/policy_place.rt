@@ -1,6 +1,6 @@
 //! Where in its text the key or the item stands for which a policy is refused.
 ghost use Rattle.std.specs.Prelude.{◌≡◌, ◌≤◌, length, option_map};
-ghost use Rattle.ds_policy_reasons.specs.Keys.{plain_odd};
+ghost use Rattle.ds_policy_reasons.specs.Inner.Keys.{plain_odd};
 ghost use Rattle.ds_drive.specs.PolicyPlaces.{array_place, odd_place, page_key, page_place, process_key, process_place, reason_place, rule_key, rule_place};
 
 use ds_check::{Items, Place, item_place, root_key_place};

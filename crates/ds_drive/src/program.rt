@@ -4,7 +4,7 @@ ghost use Rattle.std.specs.Io.KnownBytes.{Keeps};
 ghost use Rattle.clap.specs.Words.{fault_of};
 ghost use Rattle.ds_drive.specs.Done.{AsksNoSummary, IsCutShort, IsDone, IsStopped, IsTooMuch, IsUnended, WantsMemory, stream};
 ghost use Rattle.ds_drive.specs.Failures.{memory_failure};
-ghost use Rattle.ds_drive.specs.Listening.{Tells, listener};
+ghost use Rattle.ds_drive.specs.Listening.{IsToldText, listener};
 ghost use Rattle.ds_drive.specs.Reading.{ReadsFor};
 ghost use Rattle.ds_drive.specs.Told.{bare_words_line, failure_line};
 ghost use Rattle.ds_words.specs.Words.{AsksForSomething, MisnamesMemory, command_named, dsmon_app};
@@ -54,17 +54,17 @@ pub fn drive_with_input<F: Files, R: Read, W: Write, E: Output>(
     ensures kind { result ≡ 1 → fault_of dsmon_app (map string_bytes words.now) ≡ []
         → ¬ MisnamesMemory (map string_bytes words.now)
         → command_named (map string_bytes words.now) ≢ Some (codes "bare")
-        → Tells (listener (E.contents err.old) (E.contents err.new) (E.answers err.old)
+        → IsToldText (listener (E.contents err.old) (E.contents err.new) (E.answers err.old)
         (E.answers err.new))
         (codes "dsmon: --only takes end, calls, denials, switches or units\n") }
     ensures memory { result ≡ 1 → fault_of dsmon_app (map string_bytes words.now) ≡ []
         → MisnamesMemory (map string_bytes words.now)
-        → Tells (listener (E.contents err.old) (E.contents err.new) (E.answers err.old)
+        → IsToldText (listener (E.contents err.old) (E.contents err.new) (E.answers err.old)
         (E.answers err.new))
         (codes "dsmon: --memory takes P:ADDRESS:COUNT, as 1:00410000:8, at most eight times\n") }
     ensures bare { result ≡ 1 → fault_of dsmon_app (map string_bytes words.now) ≡ []
         → command_named (map string_bytes words.now) ≡ Some (codes "bare")
-        → Tells (listener (E.contents err.old) (E.contents err.new) (E.answers err.old)
+        → IsToldText (listener (E.contents err.old) (E.contents err.new) (E.answers err.old)
         (E.answers err.new)) bare_words_line }
     ensures done { result ≡ 0
         → IsDone (map string_bytes words.now) (F.holds files.old)
@@ -186,11 +186,11 @@ pub fn refuse_words<E: Output>(err: &mut E, kind: ErrorKind) -> u8
     ensures memory { kind ≡ ErrorKind.OutOfMemory → result ≡ 3 }
     ensures other { kind ≢ ErrorKind.OutOfMemory → result ≡ 1 }
     ensures told { kind ≡ ErrorKind.OutOfMemory
-        → Tells (listener (E.contents err.old) (E.contents err.new) (E.answers err.old)
+        → IsToldText (listener (E.contents err.old) (E.contents err.new) (E.answers err.old)
         (E.answers err.new))
         (failure_line memory_failure) }
     ensures told_other { kind ≢ ErrorKind.OutOfMemory
-        → Tells (listener (E.contents err.old) (E.contents err.new) (E.answers err.old)
+        → IsToldText (listener (E.contents err.old) (E.contents err.new) (E.answers err.old)
         (E.answers err.new))
         (codes "dsmon: the words are no text\n") }
 {

@@ -2,7 +2,8 @@
 ghost use Rattle.std.specs.Prelude.{◌≡◌, ◌⊎◌, IfErr, IfOk, None, Some, false, true};
 ghost use Rattle.std.specs.List.{All};
 ghost use Rattle.ds_drive.specs.Failures.{EndsThenBy};
-ghost use Rattle.ds_drive.specs.Ran.{IsEnded, IsLeft, begun_by, first_by};
+ghost use Rattle.ds_drive.specs.Ran.{IsLeft, first_by};
+ghost use Rattle.ds_drive.specs.Inner.Ran.{IsEnded, begun_by};
 ghost use Rattle.ds_station.specs.Headline.{sources_seen};
 ghost use Rattle.ds_words.specs.Windows.{IsWindow, windows_in};
 

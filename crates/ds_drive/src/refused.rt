@@ -1,7 +1,8 @@
 //! What a check refuses, and what is at fault then.
 ghost use Rattle.std.specs.Prelude.{◌≡◌, ◌<◌, ◌≤◌, ℕ, List, length, None, IfOk, IfSome, position, bytes_eq};
 ghost use Rattle.ds_policy_reasons.specs.Reasons.{policy_reason};
-ghost use Rattle.ds_drive.specs.AtFault.{IsCauseOf, IsInputAt, IsPlaceAt, IsReasonAt, IsSourceAt, IsSourceOf, place_told, plain, texts_seen};
+ghost use Rattle.ds_drive.specs.AtFault.{IsInputAt, IsPlaceAt, IsReasonAt, IsSourceAt, IsSourceOf, place_told, plain};
+ghost use Rattle.ds_drive.specs.Inner.AtFault.{IsCauseOf, texts_seen};
 ghost use Rattle.ds_drive.specs.Failures.{memory_failure};
 ghost use Rattle.ds_drive.specs.declared.failure.Failure.TheVariants as failure;
 
@@ -235,7 +236,7 @@ fn source_named(
 ) -> Result<Option<FaultySource>, OutOfMemory>
     ensures { IfOk result (λ told. IsSourceOf name.now (texts_seen texts.items) told) }
 {
-    let Some(index) = place_of(&texts, name) else {
+    let Some(index) = place_of_name(&texts, name) else {
         return Ok(None);
     };
     let text = texts.swap_remove(index).text;
@@ -244,7 +245,7 @@ fn source_named(
 }
 
 /// The place of the first source of this name.
-fn place_of(texts: &[SourceText], name: &str) -> Option<usize>
+fn place_of_name(texts: &[SourceText], name: &str) -> Option<usize>
     ensures { result ≡ position (λ s. bytes_eq s.name name.now) texts.now }
 {
     texts.iter().position(|source| source.name.as_str() == name)

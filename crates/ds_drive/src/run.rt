@@ -1,11 +1,13 @@
 //! A run of files: the policy, the input, and the sources that the policy names.
 ghost use Rattle.std.specs.Prelude.{◌≡◌, ◌⊎◌, ◌≤◌, ◌∷◌, ℕ, List, [], IfErr, IfOk, None, OnOk, All, length, map};
 ghost use Rattle.ds_station.specs.Headline.{sources_seen};
-ghost use Rattle.ds_drive.specs.AtFault.{texts_seen};
-ghost use Rattle.ds_drive.specs.Failures.{AreUnread, AreUntaken, HoldsInputs, HoldsTexts, IsUnread, IsUnreadRun, StopsBy};
+ghost use Rattle.ds_drive.specs.Inner.AtFault.{texts_seen};
+ghost use Rattle.ds_drive.specs.Failures.{HoldsInputs, HoldsTexts, StopsBy};
+ghost use Rattle.ds_drive.specs.Inner.Failures.{AreUnread, AreUntaken, IsUnread, IsUnreadRun};
 ghost use Rattle.ds_drive.specs.Inside.{outside_of};
 ghost use Rattle.ds_drive.specs.Ran.{HasLeftFiles, HasRunFiles};
-ghost use Rattle.ds_drive.specs.Reading.{ReadsAll, ReadsRun, ReadsRunUntil, ReadsUntil, TellsOf, TellsOfRun};
+ghost use Rattle.ds_drive.specs.Reading.{ReadsAll, ReadsRunUntil, ReadsUntil};
+ghost use Rattle.ds_drive.specs.Inner.Reading.{ReadsRun, TellsOf, TellsOfRun};
 ghost use Rattle.ds_words.specs.Windows.{IsWindow, windows_in};
 
 use crate::failure::Failure;

@@ -3,10 +3,12 @@ ghost use Rattle.std.specs.Prelude.{◌≡◌, ◌++◌, OnErr, OnOk, codes, fla
 ghost use Rattle.std.specs.Io.KnownBytes.{Appends};
 ghost use Rattle.ds_check.specs.Carets.{place_shown};
 ghost use Rattle.ds_drive.specs.Failures.{failure_number};
-ghost use Rattle.ds_drive.specs.Listening.{Tells, TellsSome, is_unwritten, listener};
+ghost use Rattle.ds_drive.specs.Listening.{IsToldText, TellsSome, listener};
+ghost use Rattle.ds_drive.specs.Inner.Listening.{is_unwritten};
 ghost use Rattle.ds_drive.specs.Names.{shown_name};
 ghost use Rattle.ds_drive.specs.Statuses.{fault_status};
-ghost use Rattle.ds_drive.specs.Told.{below_text, cause_below, cause_shown, failure_line, fault_shown_in, fault_words, input_shown, none_passed, others_shown, others_told, pass, passed_in, place_line, policy_shown, reason_after, reason_or_mending, source_fault_words, source_shown, why_told};
+ghost use Rattle.ds_drive.specs.Told.{below_text, cause_below, cause_shown, failure_line, fault_shown_in, fault_words, input_shown, none_passed, others_shown, others_told, pass, place_line, policy_shown, reason_after, reason_or_mending, source_fault_words, source_shown, why_told};
+ghost use Rattle.ds_drive.specs.Inner.Told.{passed_in};
 ghost use Rattle.ds_log.specs.Sent.{AppendsPart, IsAskedOnce};
 
 use crate::failure::Failure;
@@ -31,7 +33,7 @@ use std::alloc::{AllocError, Global};
 #[tactic(auto, using(crate::proofs::Heard::told_so))]
 pub fn tell<'a, E: Output>(err: &mut E, failure: &Failure<'a>) -> u8
     ensures status { result ≡ fault_status (failure_number failure.now) }
-    ensures told { Tells (listener (E.contents err.old) (E.contents err.new)
+    ensures told { IsToldText (listener (E.contents err.old) (E.contents err.new)
         (E.answers err.old) (E.answers err.new))
         (failure_line failure.now) }
 {
@@ -53,7 +55,7 @@ pub fn tell_refused<'a, E: Output>(alloc: Global, err: &mut E, refused: &Refused
 }
 
 /// Hands all that is told of a refusal to the writer.
-#[tactic(auto, using(crate::proofs::Heard::told_behind, crate::proofs::Heard::told_first))]
+#[tactic(auto, using(crate::proofs::Heard::told_after, crate::proofs::Heard::told_first))]
 fn send_refused<'a, E: Output>(alloc: Global, err: &mut E, refused: &Refused<'a>)
     ensures { TellsSome (listener (E.contents err.old) (E.contents err.new)
         (E.answers err.old) (E.answers err.new))

@@ -1,10 +1,14 @@
 //! The trace of a run of files.
 ghost use Rattle.std.specs.Prelude.{◌≡◌, ◌∷◌, ℕ, List, [], IfErr, IfOk, OnOk, false, if◌then◌else◌, true};
 ghost use Rattle.std.specs.List.{All};
-ghost use Rattle.ds_drive.specs.Placed.{WithPlaced, placed};
-ghost use Rattle.ds_drive.specs.Ran.{HasTracedFiles, IsTraced, begun_by, first_by};
-ghost use Rattle.ds_drive.specs.Reading.{ReadsRun, ReadsRunUntil, TellsOfRun};
-ghost use Rattle.ds_drive.specs.TraceRuns.{PlacedTraceEnds, TraceEndsThenBy, TraceStopsBy};
+ghost use Rattle.ds_drive.specs.Placed.{pages_by_sources};
+ghost use Rattle.ds_drive.specs.Inner.Placed.{WithPlaced};
+ghost use Rattle.ds_drive.specs.Ran.{HasTracedFiles, IsTraced, first_by};
+ghost use Rattle.ds_drive.specs.Inner.Ran.{begun_by};
+ghost use Rattle.ds_drive.specs.Reading.{ReadsRunUntil};
+ghost use Rattle.ds_drive.specs.Inner.Reading.{ReadsRun, TellsOfRun};
+ghost use Rattle.ds_drive.specs.TraceRuns.{TraceEndsThenBy, TraceStopsBy};
+ghost use Rattle.ds_drive.specs.Inner.TraceRuns.{PlacedTraceEnds};
 ghost use Rattle.ds_listing.specs.Pages.{plain_pages};
 ghost use Rattle.ds_station.specs.Headline.{sources_seen};
 ghost use Rattle.ds_trace.specs.Sources.{pages_with};
@@ -180,7 +184,7 @@ fn trace_with<'a, 's, O: Output>(
 ) -> Result<Outcome, Fault>
     requires windows { All IsWindow (windows_in request.now.extras.memory) }
     requires placed { plain_pages pages.now
-        ≡ placed policy.now (sources_seen sources.now) request.now }
+        ≡ pages_by_sources policy.now (sources_seen sources.now) request.now }
     ensures ok { IfOk result (λ o. WithPlaced policy.now (sources_seen sources.now) request.now
         (λ told. IsTraced told o (O.contents out.old) (O.contents out.new)
         (first_by policy.now (sources_seen sources.now) input.now request.now.run)

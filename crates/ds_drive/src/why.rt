@@ -2,7 +2,8 @@
 ghost use Rattle.std.specs.Prelude.{◌≡◌, ◌++◌, IfOk, OnOk, codes, decimal, is_some, option_map};
 ghost use Rattle.ds_check.specs.Mending.{mended};
 ghost use Rattle.ds_drive.specs.Told.{none_passed, reason_after, reason_told, text_or_none, why_input, why_policy, why_source};
-ghost use Rattle.ds_source_reasons.specs.Told.{fault_text, plain_fault};
+ghost use Rattle.ds_source_reasons.specs.Told.{fault_text};
+ghost use Rattle.ds_source_reasons.specs.Inner.Told.{plain_fault};
 
 use crate::refused::{FaultyInput, FaultySource, Refused};
 use ds_asm::SourceFault;

@@ -2,10 +2,10 @@
 ghost use Rattle.std.specs.Prelude.{◌≡◌, IfErr, OnErr, OnOk, flat_map, length};
 ghost use Rattle.std.specs.List.{All};
 ghost use Rattle.std.specs.Io.KnownBytes.{Appends};
-ghost use Rattle.ds_drive.specs.Windows.{lacking_of, lines_in, window_lines};
+ghost use Rattle.ds_drive.specs.Windows.{lacking_of, window_lines_in, window_lines};
 ghost use Rattle.ds_log.specs.Sent.{AppendsPart};
 ghost use Rattle.ds_station.specs.Reads.{memory_held};
-ghost use Rattle.ds_trace.specs.Handed.{IsLate};
+ghost use Rattle.ds_trace.specs.Inner.Handed.{IsLate};
 ghost use Rattle.ds_words.specs.Windows.{IsWindow};
 
 use ds_log::Output;
@@ -69,10 +69,10 @@ pub(crate) fn send_windows<L: Lookaside, O: Output>(
 ) -> Result<(), Fault>
     requires { All IsWindow windows.now }
     ensures ok { OnOk result (Appends (O.contents out.old) (O.contents out.new)
-        (lines_in (length station.now.held.kept.state.processes)
+        (window_lines_in (length station.now.held.kept.state.processes)
         (memory_held station.now.held) windows.now)) }
     ensures err { OnErr result (AppendsPart (O.contents out.old) (O.contents out.new)
-        (lines_in (length station.now.held.kept.state.processes)
+        (window_lines_in (length station.now.held.kept.state.processes)
         (memory_held station.now.held) windows.now)) }
     ensures late { IfErr result IsLate }
 {

@@ -2,8 +2,9 @@
 ghost use Rattle.std.specs.Prelude.{◌≡◌, ◌≢◌, ◌≤◌, ◌⊎◌, ◌∷◌, List, [], ℕ, Some, codes, map, string_bytes};
 ghost use Rattle.std.specs.Io.KnownBytes.{Keeps};
 ghost use Rattle.clap.specs.Words.{fault_of};
-ghost use Rattle.ds_drive.specs.Done.{AsksNoSummary, IsCutShort, IsDone, IsStopped, IsTooMuch, IsUnended, WantsMemory, no_input, stream};
-ghost use Rattle.ds_drive.specs.Listening.{Tells, listener};
+ghost use Rattle.ds_drive.specs.Done.{AsksNoSummary, IsCutShort, IsDone, IsStopped, IsTooMuch, IsUnended, WantsMemory, stream};
+ghost use Rattle.ds_drive.specs.Inner.Done.{no_input};
+ghost use Rattle.ds_drive.specs.Listening.{IsToldText, listener};
 ghost use Rattle.ds_drive.specs.Reading.{ReadsFor};
 ghost use Rattle.ds_drive.specs.Told.{bare_words_line};
 ghost use Rattle.ds_words.specs.Words.{AsksForSomething, MisnamesMemory, command_named, dsmon_app};
@@ -33,17 +34,17 @@ pub fn drive<F: Files, W: Write, E: Output>(
     ensures kind { result ≡ 1 → fault_of dsmon_app (map string_bytes words.now) ≡ []
         → ¬ MisnamesMemory (map string_bytes words.now)
         → command_named (map string_bytes words.now) ≢ Some (codes "bare")
-        → Tells (listener (E.contents err.old) (E.contents err.new) (E.answers err.old)
+        → IsToldText (listener (E.contents err.old) (E.contents err.new) (E.answers err.old)
         (E.answers err.new))
         (codes "dsmon: --only takes end, calls, denials, switches or units\n") }
     ensures memory { result ≡ 1 → fault_of dsmon_app (map string_bytes words.now) ≡ []
         → MisnamesMemory (map string_bytes words.now)
-        → Tells (listener (E.contents err.old) (E.contents err.new) (E.answers err.old)
+        → IsToldText (listener (E.contents err.old) (E.contents err.new) (E.answers err.old)
         (E.answers err.new))
         (codes "dsmon: --memory takes P:ADDRESS:COUNT, as 1:00410000:8, at most eight times\n") }
     ensures bare { result ≡ 1 → fault_of dsmon_app (map string_bytes words.now) ≡ []
         → command_named (map string_bytes words.now) ≡ Some (codes "bare")
-        → Tells (listener (E.contents err.old) (E.contents err.new) (E.answers err.old)
+        → IsToldText (listener (E.contents err.old) (E.contents err.new) (E.answers err.old)
         (E.answers err.new)) bare_words_line }
     ensures done { result ≡ 0
         → IsDone (map string_bytes words.now) (F.holds files.old) no_input

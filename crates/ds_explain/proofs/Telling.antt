@@ -14,9 +14,10 @@ use Rattle.ds_refinement.specs.Held.{Held}
 use Rattle.ds_refinement.specs.Runs.{RunsTo}
 use Rattle.ds_refinement.specs.Stands.{Stands}
 use Rattle.ds_station.specs.Headline.{Begins}
-use Rattle.ds_explain.specs.Chosen.{end_text, most_of, skipped}
+use Rattle.ds_explain.specs.Chosen.{chosen_end_text, most_of, skipped}
 use Rattle.ds_explain.specs.Explained.{Explains, ExplainsLog, HasLog, Tells, WritesExplained, WritesExplainedPart}
-use Rattle.ds_explain.specs.Moments.{AreTold, IsTold, Moments, moments, told_text}
+use Rattle.ds_explain.specs.Moments.{AreTold, Moments, told_text}
+use Rattle.ds_explain.specs.Inner.Moments.{IsTold, moments}
 use Rattle.ds_log_reasons.specs.Sentences.{Context, Placed, placed}
 use Rattle.ds_explain.specs.declared.chosen.Chosen.{Chosen}
 
@@ -50,12 +51,12 @@ none_left (suc k) (b ∷ rest) over = absurd (is_over (nat_lt 0 (suc k)) (not (l
 
 module _ (x : Placed) (n : ℕ) (first h next : Held) (all : List (List ℕ)) (written : List ℕ) where
   -- one line more is told
-  pub told_more : (left : ℕ) (rest line behind more : List ℕ) → 0 < left → lines_of rest ≡ line ∷ lines_of behind → IsTold x n line h next written more
+  pub told_more : (left : ℕ) (rest line afterwards more : List ℕ) → 0 < left → lines_of rest ≡ line ∷ lines_of afterwards → IsTold x n line h next written more
       → ((later : List ℕ) → AreTold x n h (take left (lines_of rest)) later → AreTold x n first all (written ++ later))
-      → (later : List ℕ) → AreTold x n next (take (left - 1) (lines_of behind)) later → AreTold x n first all (more ++ later)
-  told_more left rest line behind more some is (at, last, runs, adds) before later are =
+      → (later : List ℕ) → AreTold x n next (take (left - 1) (lines_of afterwards)) later → AreTold x n first all (more ++ later)
+  told_more left rest line afterwards more some is (at, last, runs, adds) before later are =
       let number : left ≡ suc (left - 1) = omega (arith, some) in
-      let e : take left (lines_of rest) ≡ line ∷ take (left - 1) (lines_of behind) = ap (take left) is ∙ ap (λ (k : ℕ). take k (line ∷ lines_of behind)) number in
+      let e : take left (lines_of rest) ≡ line ∷ take (left - 1) (lines_of afterwards) = ap (take left) is ∙ ap (λ (k : ℕ). take k (line ∷ lines_of afterwards)) number in
       let m : Moments = moments at last next in
       let whole = before (told_text x line m ++ later) (subst (λ (ls : List (List ℕ)). AreTold x n h ls (told_text x line m ++ later)) (sym e) (m, later, runs, refl, are)) in
       subst (AreTold x n first all) (sym (ap (λ (t : List ℕ). t ++ later) adds ∙ append_assoc written (told_text x line m) later)) whole
@@ -86,7 +87,7 @@ tells_from x n read s lines text b told = (b.0, b.1, record { start = s; stands 
 
 -- with what is said of the others
 pub explains_from : (x : Context) (c : Chosen) (n : ℕ) (read : Result State Refusal) (log part told text : List ℕ) → lines_of part ≡ drop (skipped c) (lines_of log)
-    → Begins read (Tells (placed x) n (take (most_of c) (lines_of part)) told) → text ≡ told ++ end_text c (lines_of log)
+    → Begins read (Tells (placed x) n (take (most_of c) (lines_of part)) told) → text ≡ told ++ chosen_end_text c (lines_of log)
     → Begins read (Explains x c n (lines_of log) text)
 explains_from x c n read log part told text is b all = (
   b.0,

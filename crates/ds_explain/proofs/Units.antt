@@ -6,7 +6,7 @@ use Rattle.ds_refinement.specs.declared.step.Step.TheVariants as step
 use Rattle.ds_refinement.specs.Held.{Held}
 use Rattle.ds_log.specs.declared.line.Line.{Line}
 use Rattle.ds_log.specs.declared.line.Line.TheVariants.{Refused}
-use Rattle.ds_log_reasons.specs.Lines.{line_of}
+use Rattle.ds_log_reasons.specs.Lines.{log_line_of}
 use Rattle.ds_refinement.specs.Real.{RealPath}
 use Rattle.ds_refinement.specs.Runs.{RunsTo}
 use Rattle.ds_refinement.specs.Steps.{steps_left}
@@ -16,7 +16,8 @@ use Rattle.ds_policy.specs.Pages.{entries_of}
 use Rattle.ds_station.specs.Reads.{address_held, fetched, general_held, memory_held}
 use Rattle.ds_log_reasons.specs.Sentences.{Placed, Sighted, denial_text, refused_text}
 use Rattle.ds_log_reasons.specs.declared.sentences.Denial as denial
-use Rattle.ds_explain.specs.Moments.{Inside, IsKnown, IsShown, IsStopped, IsTold, Moments, RunsFor, Steps, UnitWhere, found_held, is_inside, is_there, known_text, moments, newest, said_text, sight_held, still, time_of}
+use Rattle.ds_explain.specs.Moments.{Inside, Moments, RunsFor, Steps, UnitWhere, is_inside, is_there, known_text, newest_state, said_text, sighted_held, still, line_time}
+use Rattle.ds_explain.specs.Inner.Moments.{IsKnown, IsShown, IsStopped, IsTold, found_held, moments}
 use Rattle.ds_explain.specs.declared.moments.Found.{Found}
 
 -- the steps so far, with the registers before the last of them but one, and before the last
@@ -24,7 +25,7 @@ pub record Walk (first : Held) (p : ℕ) (found now : Found) (kind : Step) (h : 
   pub before : List Held
   pub served : Held
   pub inside : Inside first before served
-  pub found_is : found ≡ found_held (newest first before) p
+  pub found_is : found ≡ found_held (newest_state first before) p
   pub now_is : now ≡ found_held served p
   pub steps : Steps kind served h
   pub within : served.kept.state.time < 1000000000
@@ -66,7 +67,7 @@ module _ (first : Held) (p : ℕ) where
   -- the unit is over
   pub is_stopped : (found now : Found) (kind : Step) (h : Held) → is_inside kind ≡ false → Walk first p found now kind h → IsStopped p found first h
   is_stopped found now kind h over w = (
-    newest first w.before,
+    newest_state first w.before,
     record { before = w.before; served = w.served; inside = w.inside; last = refl; kind = kind; over = over; ends = w.steps },
     w.found_is,
   )
@@ -90,11 +91,11 @@ module _ (x : Placed) (d : denial.Denial) (h new : Held) (found : Found) (old te
       → text ≡ old ++ denial_text x d s → IsShown x d h new old text
   shown s is (last, unit, found_is) seen adds =
       let m : Moments = moments h last new in
-      let sight : s ≡ sight_held m d.process d.pc =
+      let sight : s ≡ sighted_held m d.process d.pc =
       seen ∙ ap (λ (f : Found). record { unit = address_held h d.process; word = fetched (memory_held h) d.process d.pc; general = f.general; late = f.late; entries = entries_of h.kept.grants.table d.process; answer = slice_index (general_held new d.process) 2 }) found_is in (
         last,
         subst (λ (b : Bool). UnitWhere b m) (sym is) unit,
-        adds ∙ (ap (λ (t : Sighted). old ++ denial_text x d t) sight ∙ ap (λ (b : Bool). old ++ (if b then denial_text x d (sight_held m d.process d.pc) else [])) (sym is)),
+        adds ∙ (ap (λ (t : Sighted). old ++ denial_text x d t) sight ∙ ap (λ (b : Bool). old ++ (if b then denial_text x d (sighted_held m d.process d.pc) else [])) (sym is)),
       )
 
 -- where there is none
@@ -102,7 +103,7 @@ pub not_shown : (x : Placed) (d : denial.Denial) (h : Held) (text : List ℕ) �
 not_shown x d h text is = (
   h,
   subst (λ (b : Bool). UnitWhere b (still h)) (sym is) refl,
-  sym (append-nil text) ∙ ap (λ (b : Bool). text ++ (if b then denial_text x d (sight_held (still h) d.process d.pc) else [])) (sym is),
+  sym (append-nil text) ∙ ap (λ (b : Bool). text ++ (if b then denial_text x d (sighted_held (still h) d.process d.pc) else [])) (sym is),
 )
 
 -- A refused command.
@@ -118,7 +119,7 @@ module _ (x : Placed) (n : ℕ) (line : List ℕ) (h first new : Held) (old some
   itself = written ∙ append_assoc old line (10 ∷ [])
 
   -- one of a log
-  pub line_told : (l : Line) → line_of line ≡ Some l → RunsTo (min (time_of l) n) h first → RealPath h first → IsKnown x l first new some text → IsTold x n line h new old text
+  pub line_told : (l : Line) → log_line_of line ≡ Some l → RunsTo (min (line_time l) n) h first → RealPath h first → IsKnown x l first new some text → IsTold x n line h new old text
   line_told l is runs path (last, goes, adds) =
       let m : Moments = moments first last new in (
         first,
@@ -131,7 +132,7 @@ module _ (x : Placed) (n : ℕ) (line : List ℕ) (h first new : Held) (old some
       )
 
   -- any other
-  pub no_line_told : line_of line ≡ None → IsTold x n line h h old some
+  pub no_line_told : log_line_of line ≡ None → IsTold x n line h h old some
   no_line_told is = (
     h,
     h,

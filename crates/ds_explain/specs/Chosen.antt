@@ -30,5 +30,5 @@ end_by All count = others_text count
 end_by (One number) count = if nat_lt (number - 1) count then [] else codes "lines of the log: " ++ decimal count ++ codes "\n"
 
 -- the same of the lines of a log
-abbrev pub end_text : Chosen → List (List ℕ) → List ℕ
-end_text c lines = end_by c (length lines)
+abbrev pub chosen_end_text : Chosen → List (List ℕ) → List ℕ
+chosen_end_text c lines = end_by c (length lines)

@@ -1,19 +1,15 @@
 -- What is written where a log is explained.
-use Rattle.std.specs.Prelude.{◌≡◌, ℕ, List, ◌++◌, Option, Result, flat_map}
-use Rattle.std.specs.Io.KnownBytes.{Appends, Keeps}
+use Rattle.std.specs.Prelude.{◌≡◌, ℕ, List, ◌++◌, Option, flat_map}
+use Rattle.std.specs.Io.KnownBytes.{Appends}
 use Rattle.ds_asm.specs.Assembly.{lines_of}
 use Rattle.ds_log.specs.Sent.{AppendsPart}
 use Rattle.ds_log.specs.Text.{line_text}
-use Rattle.ds_pagemap.specs.Inputs.{Refusal}
 use Rattle.ds_pagemap.specs.Machine.{State}
 use Rattle.ds_pagemap.specs.Run.{Ends}
 use Rattle.ds_refinement.specs.Held.{Held}
 use Rattle.ds_refinement.specs.Stands.{Stands}
-use Rattle.ds_station.specs.Headline.{Begins, Refuses}
-use Rattle.ds_station.specs.declared.fault.Fault.{Fault}
-use Rattle.ds_station.specs.declared.fault.Fault.TheVariants as fault
 use Rattle.ds_explain.specs.declared.chosen.Chosen.{Chosen}
-use Rattle.ds_explain.specs.Chosen.{chosen_of, end_text}
+use Rattle.ds_explain.specs.Chosen.{chosen_of, chosen_end_text}
 use Rattle.ds_explain.specs.Moments.{AreTold}
 use Rattle.ds_log_reasons.specs.Sentences.{Context, Placed, placed}
 
@@ -33,7 +29,7 @@ pub record Tells (x : Placed) (n : ℕ) (lines : List (List ℕ)) (text : List �
 pub record Explains (x : Context) (c : Chosen) (n : ℕ) (lines : List (List ℕ)) (text : List ℕ) (first : State) : Type 0 where
   pub lines_told : List ℕ
   pub tells : Tells (placed x) n (chosen_of c lines) lines_told first
-  pub all : text ≡ lines_told ++ end_text c lines
+  pub all : text ≡ lines_told ++ chosen_end_text c lines
 
 -- of the log of a run for n
 pub record ExplainsLog (x : Context) (c : Chosen) (n : ℕ) (text : List ℕ) (first : State) : Type 0 where
@@ -52,8 +48,3 @@ pub record WritesExplainedPart (x : Context) (c : Chosen) (old new : Option (Lis
   pub text : List ℕ
   pub explains : ExplainsLog x c n text first
   pub written : AppendsPart old new text
-
--- when each fault comes, and what is written then: nothing where it refuses the inputs, or memory runs out
-abbrev pub ExplainEndsBy : Fault → Context → Chosen → Result State Refusal → Option (List ℕ) → Option (List ℕ) → ℕ → Type 0
-ExplainEndsBy fault.WriteFault x c read old new n = Begins read (WritesExplainedPart x c old new n)
-ExplainEndsBy f x c read old new n = Refuses f read × Keeps old new

@@ -1,4 +1,5 @@
 pub mod Chosen
-pub mod ChosenRows
 pub mod Moments
 pub mod Explained
+pub mod Inner
+pub mod Rows

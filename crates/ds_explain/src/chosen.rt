@@ -1,7 +1,7 @@
 //! Which lines of a log are told, and what is said of the others.
 ghost use Rattle.std.specs.Prelude.{◌≡◌, ◌-◌, ◌++◌, ◌<◌, ◌≤◌, OnOk, codes, decimal, drop, length};
 ghost use Rattle.ds_asm.specs.Assembly.{lines_of};
-ghost use Rattle.ds_explain.specs.Chosen.{end_by, end_text, most_of, others_text, skipped};
+ghost use Rattle.ds_explain.specs.Chosen.{end_by, chosen_end_text, most_of, others_text, skipped};
 
 use ds_asm::first_line;
 use ds_text::sheet::push_decimal;
@@ -65,7 +65,7 @@ impl Chosen {
     /// Adds what is said of the lines of a log that are not told.
     pub(crate) fn push_end(self, sheet: &mut Vec<u8>, log: &[u8]) -> Result<(), AllocError>
         ensures { OnOk result
-            (sheet.new.items ≡ sheet.old.items ++ end_text self (lines_of log.now)) }
+            (sheet.new.items ≡ sheet.old.items ++ chosen_end_text self (lines_of log.now)) }
     {
         self.push_end_by(sheet, count_of(log))
     }

@@ -6,9 +6,11 @@ ghost use Rattle.ds_log.specs.Sent.{AppendsPart, IsAskedOnce};
 ghost use Rattle.ds_pagemap.specs.Inputs.{Refusal, inputs_under};
 ghost use Rattle.ds_station.specs.Faults.{is_unwritten};
 ghost use Rattle.ds_station.specs.Headline.{Begins, IsRefused, Refuses, sources_seen};
-ghost use Rattle.ds_explain.specs.Chosen.{end_text, most_of};
-ghost use Rattle.ds_explain.specs.Explained.{ExplainEndsBy, Explains, HasLog, Tells, WritesExplained};
-ghost use Rattle.ds_log_reasons.specs.Sentences.{context, placed};
+ghost use Rattle.ds_explain.specs.Chosen.{chosen_end_text, most_of};
+ghost use Rattle.ds_explain.specs.Explained.{Explains, HasLog, Tells, WritesExplained};
+ghost use Rattle.ds_explain.specs.Inner.Explained.{ExplainEndsBy};
+ghost use Rattle.ds_log_reasons.specs.Sentences.{placed};
+ghost use Rattle.ds_log_reasons.specs.Inner.Sentences.{context};
 
 use crate::chosen::Chosen;
 use crate::moments::told_lines;

@@ -1,14 +1,15 @@
 //! The lines of a log, each told with what a station holds that has run to its time.
 ghost use Rattle.std.specs.Prelude.{◌≡◌, ◌≤◌, ◌==◌, ◌&&◌, true, not, nat_le, nat_lt, ◌<◌, ◌++◌, ◌∷◌, [], IfOk, OnOk, length, min, take};
 ghost use Rattle.ds_asm.specs.Assembly.{lines_of};
-ghost use Rattle.ds_log_reasons.specs.Lines.{line_of};
-ghost use Rattle.ds_explain.specs.Moments.{AreTold, IsKnown, IsShown, IsStopped, IsTold, denied_text, found_held, is_inside, is_there, time_of};
-ghost use Rattle.ds_log_reasons.specs.Sentences.{known_placed};
+ghost use Rattle.ds_log_reasons.specs.Lines.{log_line_of};
+ghost use Rattle.ds_explain.specs.Moments.{AreTold, denied_text, is_inside, is_there, line_time};
+ghost use Rattle.ds_explain.specs.Inner.Moments.{IsKnown, IsShown, IsStopped, IsTold, found_held};
+ghost use Rattle.ds_log_reasons.specs.Inner.Sentences.{known_placed};
 
 use ds_asm::first_line;
 use ds_isa::Late;
 use ds_log::Line;
-use ds_log_reasons::{Denial, Known, Sight, line_of, push_denial, push_refused};
+use ds_log_reasons::{Denial, Known, Sight, log_line_of, push_denial, push_refused};
 use ds_refinement::Step;
 use ds_station::{Fault, Station};
 use ds_tlb::Lookaside;
@@ -25,8 +26,8 @@ pub(crate) struct Found {
 }
 
 /// The time of a line.
-fn time_of(line: Line) -> u64
-    ensures { result ≡ time_of line }
+fn line_time(line: Line) -> u64
+    ensures { result ≡ line_time line }
 {
     match line {
         Line::Denial { time, .. } => time,
@@ -182,9 +183,9 @@ fn push_line<'a, L: Lookaside>(
         station.new.held sheet.old.items sheet.new.items) }
 {
     push_itself(sheet, line)?;
-    match line_of(line) {
+    match log_line_of(line) {
         Some(said) => {
-            station.run(time_of(said).min(n))?;
+            station.run(line_time(said).min(n))?;
             push_known(sheet, alloc, known, said, station)
         }
         None => Ok(()),
@@ -216,9 +217,9 @@ pub(crate) fn told_lines<'a, L: Lookaside>(
     let mut left = most;
     let mut rest = log;
     while is_left(left, rest) {
-        let (line, behind) = first_line(rest);
+        let (line, afterwards) = first_line(rest);
         push_line(&mut sheet, alloc, known, n, line, station)?;
-        rest = behind;
+        rest = afterwards;
         left -= 1;
     }
     Ok(sheet)

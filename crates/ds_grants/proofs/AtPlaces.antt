@@ -8,8 +8,8 @@ use Rattle.std.proofs.lemmas.Map.Keys.{IsDistinct-head, IsDistinct-tail}
 use Rattle.ds_policy.specs.declared.grant.Entry.{Entry}
 use Rattle.ds_policy.specs.Pages.{found}
 use Rattle.ds_policy.proofs.Entries.{is_at, placed, place_some, place_none}
-use Rattle.ds_grants.specs.Sound.{has_same_address}
-use Rattle.ds_grants.specs.Counts.{one_if_named, page_of, AreOneFewer}
+use Rattle.ds_grants.specs.Inner.Sound.{has_same_address}
+use Rattle.ds_grants.specs.Inner.Counts.{one_if_named, page_of, AreOneFewer}
 use Rattle.ds_grants.proofs.FifthRegion.{same_number, itself}
 use Rattle.ds_grants.proofs.HolderCounts.{holders_at}
 

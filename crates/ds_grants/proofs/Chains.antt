@@ -8,8 +8,9 @@ use Rattle.ds_policy.specs.declared.grant.Right.TheVariants.{Read}
 use Rattle.ds_policy.specs.Pages.{entry_at, count_live}
 use Rattle.ds_policy.specs.Grants.{PageState, ◌or_else◌, refused, not_page, no_right, no_frames, table_full, fifth_region, has_right, may_not_give, is_write, no_grant, given, granted, give, grant}
 use Rattle.ds_grants.specs.declared.fault.GrantFault.{GrantFault}
-use Rattle.ds_grants.specs.State.{GrantsState, number_of, lives_in, pages_in, page_state, Does}
-use Rattle.ds_grants.specs.Order.{is_no_page}
+use Rattle.ds_grants.specs.State.{GrantsState, pages_in, page_state}
+use Rattle.ds_grants.specs.Inner.State.{grant_fault_number, lives_in, DoesCall}
+use Rattle.ds_grants.specs.Inner.Order.{is_no_page}
 
 -- a test that doesn't hold
 pub passed : (number : ℕ) (b : Bool) (next result : Result PageState ℕ) → b ≡ false → next ≡ result → (refused number b or_else next) ≡ result
@@ -34,10 +35,10 @@ denied b is = rw is refl
 
 -- the refusals of a process that lives are those that follow
 pub lives_err : {T : Type 0} (r : Result T GrantFault) (lives : Bool) (rest : List ℕ → Result PageState ℕ → Result PageState ℕ) → lives ≡ true
-    → IfErr r (λ x. (memory : List ℕ) (next : Result PageState ℕ) → rest memory next ≡ Err (number_of x))
-    → IfErr r (λ x. (memory : List ℕ) (next : Result PageState ℕ) → (refused 12 (not lives) or_else rest memory next) ≡ Err (number_of x))
+    → IfErr r (λ x. (memory : List ℕ) (next : Result PageState ℕ) → rest memory next ≡ Err (grant_fault_number x))
+    → IfErr r (λ x. (memory : List ℕ) (next : Result PageState ℕ) → (refused 12 (not lives) or_else rest memory next) ≡ Err (grant_fault_number x))
 lives_err (Ok x) lives rest is h = tt
-lives_err (Err x) lives rest is h = λ memory next. passed 12 (not lives) (rest memory next) (Err (number_of x)) (denied lives is) (h memory next)
+lives_err (Err x) lives rest is h = λ memory next. passed 12 (not lives) (rest memory next) (Err (grant_fault_number x)) (denied lives is) (h memory next)
 
 -- the outcome of a grant is that of the test of room, where the other tests don't hold
 module _ (g : GrantsState) (p a : ℕ) (lives : lives_in g p ≡ true) (page : is_no_page a ≡ false) (free : has_right (entry_at g.table p a) ≡ false) where
@@ -51,10 +52,10 @@ module _ (g : GrantsState) (p a : ℕ) (lives : lives_in g p ≡ true) (page : i
       (passed 16 (has_right (entry_at g.table p a)) room result free is))
 
   pub room_err : {T : Type 0} (r : Result T GrantFault)
-      → IfErr r (λ x. (memory : List ℕ) (next : Result PageState ℕ) → (table_full (page_state g memory) p a or_else fifth_region (page_state g memory) p a or_else next) ≡ Err (number_of x))
-      → IfErr r (λ x. (memory : List ℕ) (q : ℕ) (right : Right) (may_give : Bool) (rule : ℕ) → grant (lives_in g) (page_state g memory) p a q right may_give rule ≡ Err (number_of x))
+      → IfErr r (λ x. (memory : List ℕ) (next : Result PageState ℕ) → (table_full (page_state g memory) p a or_else fifth_region (page_state g memory) p a or_else next) ≡ Err (grant_fault_number x))
+      → IfErr r (λ x. (memory : List ℕ) (q : ℕ) (right : Right) (may_give : Bool) (rule : ℕ) → grant (lives_in g) (page_state g memory) p a q right may_give rule ≡ Err (grant_fault_number x))
   room_err (Ok x) h = tt
-  room_err (Err x) h = λ memory q right may_give rule. granted_as memory q right may_give rule (Err (number_of x)) (h memory _)
+  room_err (Err x) h = λ memory q right may_give rule. granted_as memory q right may_give rule (Err (grant_fault_number x)) (h memory _)
 
   pub room_ok : {T : Type 0} (r : Result T GrantFault)
       → OnOk r ((memory : List ℕ) (next : Result PageState ℕ) → (table_full (page_state g memory) p a or_else fifth_region (page_state g memory) p a or_else next) ≡ next)
@@ -109,8 +110,8 @@ module _ (g : GrantsState) (caller addr receiver to mode : ℕ) (lives : lives_i
       (ap (λ (o : Option Grant). as_done (given (page_state g memory) caller addr (unwrap_or o no_grant) receiver to mode)) is)
 
 -- a call or a command that is refused leaves the page state
-pub refused_by : {T : Type 0} (s : PageState) (r : Result T GrantFault) (e : GrantFault) (meant : Result PageState ℕ) → r ≡ Err e → meant ≡ Err (number_of e) → Does s s r meant
-refused_by {T = T} s r e meant is refusal = subst (λ (x : Result T GrantFault). Does s s x meant) (sym is) (refusal, refl)
+pub refused_by : {T : Type 0} (s : PageState) (r : Result T GrantFault) (e : GrantFault) (meant : Result PageState ℕ) → r ≡ Err e → meant ≡ Err (grant_fault_number e) → DoesCall s s r meant
+refused_by {T = T} s r e meant is refusal = subst (λ (x : Result T GrantFault). DoesCall s s x meant) (sym is) (refusal, refl)
 
 -- an entry that somebody else gave isn't taken back
 pub not_given : (s : PageState) (caller p a : ℕ) (grant : Grant) (next : Result PageState ℕ) → entry_at s.table p a ≡ Some grant → (grant.giver == caller) ≡ false

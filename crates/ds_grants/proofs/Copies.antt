@@ -12,10 +12,11 @@ use Rattle.ds_policy.specs.declared.grant.Right.TheVariants.{Write}
 use Rattle.ds_policy.specs.Pages.{Pages, entry_at, is_named_by, bytes_of, count_live, fresh}
 use Rattle.ds_policy.specs.Grants.{granted, copied}
 use Rattle.std.specs.Prelude.{slice_index}
-use Rattle.ds_grants.specs.State.{GrantsState, is_live, page_in, pages_in, page_state, with_grant}
-use Rattle.ds_grants.specs.Copies.{with_copy}
-use Rattle.ds_grants.specs.Counts.{one_if_named, page_of, holders_of}
-use Rattle.ds_grants.specs.Free.{IsFirstFree}
+use Rattle.ds_grants.specs.State.{GrantsState, is_live, page_in, pages_in, page_state}
+use Rattle.ds_grants.specs.Inner.State.{with_grant}
+use Rattle.ds_grants.specs.Inner.Copies.{with_copy}
+use Rattle.ds_grants.specs.Inner.Counts.{one_if_named, page_of, holders_of}
+use Rattle.ds_grants.specs.Inner.Free.{IsFirstFree}
 use Rattle.ds_grants.proofs.HolderCounts.{holders_with, named_by_holders, itself}
 use Rattle.ds_grants.proofs.Living.{live_same, or_true}
 

@@ -7,8 +7,8 @@ use Rattle.std.proofs.lemmas.List.Elements.{All-get_or}
 use Rattle.ds_policy.specs.declared.grant.Entry.{Entry}
 use Rattle.ds_policy.specs.Pages.{Table, entries_of, entry_at, erased_entry}
 use Rattle.ds_policy.specs.Families.{parent_of, with_parent, without_entry, without_entries}
-use Rattle.ds_grants.specs.Parents.{bare, AreAlike}
-use Rattle.ds_grants.specs.Sound.{has_same_address, IsGoodRow}
+use Rattle.ds_grants.specs.Inner.Parents.{bare, AreAlike}
+use Rattle.ds_grants.specs.Inner.Sound.{has_same_address, IsGoodRow}
 use Rattle.ds_grants.proofs.FifthRegion.{itself}
 use Rattle.ds_grants.proofs.Bare.{bare_row, bare_entries, handed_alike}
 use Rattle.ds_grants.proofs.Parents.{alike_length}

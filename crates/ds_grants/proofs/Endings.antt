@@ -12,18 +12,20 @@ use Rattle.ds_policy.specs.Pages.{found, entries_of, entry_at}
 use Rattle.ds_policy.specs.Families.{without_entries}
 use Rattle.ds_policy.specs.Grants.{end_process, count_distinct}
 use Rattle.ds_pagemap.proofs.Entries.{entry_at-set_other}
-use Rattle.ds_asid.specs.Spaces.{Spaces, number_of, given_up}
+use Rattle.ds_asid.specs.Spaces.{Spaces, space_number}
+use Rattle.ds_asid.specs.Inner.Spaces.{given_up}
 use Rattle.ds_asid.proofs.Apart.{given_up_apart, gone_there, others_stay}
-use Rattle.ds_tables.specs.Places.{Places, ArePlaces, freed, region_of, places_of, place_of, frame_of_place, page_of_table, closed}
-use Rattle.ds_tables.specs.Tables.{HasEmptyTable, entry_word, word_place}
-use Rattle.ds_tables.proofs.PlaceLemmas.{closed_row, place_of-closed, place_of-kept}
+use Rattle.ds_tables.specs.Places.{Places, ArePlaces, region_of, places_of, region_place, frame_of_place, page_of_table}
+use Rattle.ds_tables.specs.Inner.Places.{freed, closed}
+use Rattle.ds_tables.specs.Tables.{HasEmptyTable, entry_word, table_word_place}
+use Rattle.ds_tables.proofs.PlaceLemmas.{closed_row, region_place-closed, region_place-kept}
 use Rattle.ds_tables.proofs.Map.{none_words}
 use Rattle.ds_grants.specs.State.{GrantsState, page_state}
 use Rattle.ds_grants.specs.Words.{word_of_grant, granted_word, regions_taken, WordsHold}
 use Rattle.ds_grants.specs.Buffer.{hi_of, lo_of, read_only, IsMapped, BufferHolds}
-use Rattle.ds_grants.specs.Changes.{all_closed}
+use Rattle.ds_grants.specs.Inner.Changes.{all_closed}
 use Rattle.ds_grants.specs.Represented.{IsRepresented}
-use Rattle.ds_grants.specs.Sound.{IsGoodRow}
+use Rattle.ds_grants.specs.Inner.Sound.{IsGoodRow}
 use Rattle.ds_grants.proofs.Bare.{alike_holders}
 use Rattle.ds_grants.proofs.Parents.{alike_represented}
 use Rattle.ds_grants.proofs.Emptying.{end_alike}
@@ -65,25 +67,25 @@ differs a b other = elim (cases_Bool (a == b)) [ inl is ↦ absurd (other (sym (
 neither : (a b : Bool) → a ≡ false → b ≡ false → (a || b) ≡ false
 neither a b e f = ap (λ (x : Bool). x || b) e ∙ f
 
-place_gone : (es : List granted.Entry) (t : Places) (p r : ℕ) → place_of t p r ≡ None → place_of (all_closed t p es) p r ≡ None
+place_gone : (es : List granted.Entry) (t : Places) (p r : ℕ) → region_place t p r ≡ None → region_place (all_closed t p es) p r ≡ None
 place_gone [] t p r none = none
 place_gone (x ∷ es) t p r none = place_gone es (closed t p (region_of x.address)) p r (elim (cases_eq r (region_of x.address)) [
-  | inl here ↦ ap (place_of (closed t p (region_of x.address)) p) here ∙ place_of-closed t p (region_of x.address)
-  | inr other ↦ place_of-kept t p p (region_of x.address) r (λ own same. other same) ∙ none
+  | inl here ↦ ap (region_place (closed t p (region_of x.address)) p) here ∙ region_place-closed t p (region_of x.address)
+  | inr other ↦ region_place-kept t p p (region_of x.address) r (λ own same. other same) ∙ none
 ])
 
-place_closed : (es : List granted.Entry) (t : Places) (p r : ℕ) → used r es ≡ true → place_of (all_closed t p es) p r ≡ None
+place_closed : (es : List granted.Entry) (t : Places) (p r : ℕ) → used r es ≡ true → region_place (all_closed t p es) p r ≡ None
 place_closed [] t p r e = absurd cc
 place_closed (x ∷ es) t p r e = elim (cases_Bool (region_of x.address == r)) [
-  | inl here ↦ place_gone es (closed t p (region_of x.address)) p r (ap (place_of (closed t p (region_of x.address)) p) (sym (same_number (region_of x.address) r here)) ∙ place_of-closed t p (region_of x.address))
+  | inl here ↦ place_gone es (closed t p (region_of x.address)) p r (ap (region_place (closed t p (region_of x.address)) p) (sym (same_number (region_of x.address) r here)) ∙ region_place-closed t p (region_of x.address))
   | inr other ↦ place_closed es (closed t p (region_of x.address)) p r (sym (ap (λ (b : Bool). b || used r es) other) ∙ e)
 ]
 
-place_kept : (es : List granted.Entry) (t : Places) (p q r : ℕ) → (q ≡ p → used r es ≡ false) → place_of (all_closed t p es) q r ≡ place_of t q r
+place_kept : (es : List granted.Entry) (t : Places) (p q r : ℕ) → (q ≡ p → used r es ≡ false) → region_place (all_closed t p es) q r ≡ region_place t q r
 place_kept [] t p q r other = refl
 place_kept (x ∷ es) t p q r other =
     place_kept es (closed t p (region_of x.address)) p q r (λ own. (either (region_of x.address == r) (used r es) (other own)).1)
-    ∙ place_of-kept t p q (region_of x.address) r (λ own same. (
+    ∙ region_place-kept t p q (region_of x.address) r (λ own same. (
     let miss = either (region_of x.address == r) (used r es) (other own) in
     let no : true ≡ false = sym (ap (λ (n : ℕ). region_of x.address == n) same ∙ itself (region_of x.address)) ∙ miss.0 in
     absurd cc))
@@ -134,7 +136,7 @@ module _ (g : GrantsState) (t : Places) (p : ℕ) (low : 0 < p) (high : p ≤ le
     apart = k.apart;
     own = k.own;
     backed = λ slot e q at live some number. elim (cases_eq q p) [
-      | inl own ↦ absurd (none_left s p e.asid some (sym (ap (number_of (given_up s p)) own) ∙ number))
+      | inl own ↦ absurd (none_left s p e.asid some (sym (ap (space_number (given_up s p)) own) ∙ number))
       | inr other ↦
           let b = k.backed slot e q at live some (sym (others_stay s p q other) ∙ number) in
           record { mapped = b.mapped; words = b.words ∙ ap (entry_of (hi_of e.vpn e.asid)) (same e.vpn q live other b.mapped) }
@@ -142,7 +144,7 @@ module _ (g : GrantsState) (t : Places) (p : ℕ) (low : 0 < p) (high : p ≤ le
     used = k.used;
   }
     where
-      none_left : (s : Spaces) (p n : ℕ) → 0 < n → number_of (given_up s p) p ≡ n → ⊥
+      none_left : (s : Spaces) (p n : ℕ) → 0 < n → space_number (given_up s p) p ≡ n → ⊥
       none_left s p n some is = let none = gone_there s p in omega (arith, none, is, some)
 
       same : (vpn q : ℕ) → 0 < q → q ≢ p → IsMapped vpn → lo_of g t q vpn ≡ lo_of h u q vpn
@@ -154,10 +156,10 @@ module _ (g : GrantsState) (t : Places) (p : ℕ) (low : 0 < p) (high : p ≤ le
           (table_lo g t q (vpn - 0xC0000) ∙ (ap (λ (f : ℕ). read_only f) (sym (other_table q (vpn - 0xC0000) other)) ∙ sym (table_lo h u q (vpn - 0xC0000))))
 
   module _ (memory : List ℕ) (empty : HasEmptyTable memory) (k : WordsHold memory t g) where
-    own_place : (r : ℕ) → place_of u p r ≡ None
+    own_place : (r : ℕ) → region_place u p r ≡ None
     own_place r = elim (cases_Bool (used r es)) [
       | inl there ↦ place_closed es t p r there
-      | inr none ↦ place_kept es t p p r (λ own. none) ∙ none_is (place_of t p r) (k.regions p r low ∙ none)
+      | inr none ↦ place_kept es t p p r (λ own. none) ∙ none_is (region_place t p r) (k.regions p r low ∙ none)
     ]
 
     -- a process without tables reads as one of whom nothing is placed
@@ -166,7 +168,7 @@ module _ (g : GrantsState) (t : Places) (p : ℕ) (low : 0 < p) (high : p ≤ le
 
     own_word : (vpn : ℕ) → entry_word memory u p (vpn * 2 ^ 12) ≡ granted_word h p vpn
     own_word vpn =
-        ap (λ (f : ℕ). word_at memory (word_place f (vpn * 2 ^ 12))) (ap (frame_of_place p) (own_place (region_of (vpn * 2 ^ 12))) ∙ sym (one_row (region_of (vpn * 2 ^ 12))))
+        ap (λ (f : ℕ). word_at memory (table_word_place f (vpn * 2 ^ 12))) (ap (frame_of_place p) (own_place (region_of (vpn * 2 ^ 12))) ∙ sym (one_row (region_of (vpn * 2 ^ 12))))
         ∙ (none_words memory 1 1 (vpn * 2 ^ 12) empty
         ∙ sym (ap (λ (xs : List granted.Entry). word_of_grant h (found xs (vpn * 2 ^ 12))) own_entries))
 
@@ -175,11 +177,11 @@ module _ (g : GrantsState) (t : Places) (p : ℕ) (low : 0 < p) (high : p ≤ le
       words = λ q vpn live user. elim (cases_eq q p) [
         | inl own ↦ subst (λ (n : ℕ). entry_word memory u n (vpn * 2 ^ 12) ≡ granted_word h n vpn) (sym own) (own_word vpn)
         | inr other ↦
-            ap (λ (f : ℕ). word_at memory (word_place f (vpn * 2 ^ 12))) (other_table q (region_of (vpn * 2 ^ 12)) other)
+            ap (λ (f : ℕ). word_at memory (table_word_place f (vpn * 2 ^ 12))) (other_table q (region_of (vpn * 2 ^ 12)) other)
             ∙ (k.words q vpn live user ∙ sym (other_word q vpn live other))
       ];
       regions = λ q r live. elim (cases_eq q p) [
-        | inl own ↦ subst (λ (n : ℕ). is_some (place_of u n r) ≡ used r (entries_of h.table n)) (sym own) (ap is_some (own_place r) ∙ sym (ap (used r) own_entries))
+        | inl own ↦ subst (λ (n : ℕ). is_some (region_place u n r) ≡ used r (entries_of h.table n)) (sym own) (ap is_some (own_place r) ∙ sym (ap (used r) own_entries))
         | inr other ↦
             ap is_some (place_kept es t p q r (λ own. absurd (other own)))
             ∙ (k.regions q r live ∙ sym (ap (used r) (foreign_row g.table p q [] low live other)))

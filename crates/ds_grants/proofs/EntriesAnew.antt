@@ -14,11 +14,12 @@ use Rattle.ds_tlb.specs.Words.{entry_of}
 use Rattle.ds_tlb.proofs.Bits.{read_set_other}
 use Rattle.ds_tlb.proofs.Matches.{found_matches, entry_of_match}
 use Rattle.ds_tables.specs.Places.{Places}
-use Rattle.ds_asid.specs.Spaces.{Spaces, AreApart, number_of, number_held}
+use Rattle.ds_asid.specs.Spaces.{Spaces, AreApart, space_number}
+use Rattle.ds_asid.specs.Inner.Spaces.{number_held}
 use Rattle.ds_asid.proofs.Apart.{none_held, some_held, held_some}
 use Rattle.ds_grants.specs.Buffer.{hi_of}
 use Rattle.ds_grants.specs.Copies.{AreRewritten, HasKeys}
-use Rattle.ds_grants.specs.Rewords.{with_lo, rewritten, found_rewritten, with_entry_lo}
+use Rattle.ds_grants.specs.Inner.Rewords.{with_lo, rewritten, found_rewritten, with_entry_lo}
 use Rattle.ds_grants.proofs.Fields.{has_page, has_space}
 use Rattle.ds_grants.proofs.Translations.{at_set, set_single, found_there}
 use Rattle.ds_grants.proofs.WordsAnew.{Words, Key, is_hit, IsKey, first_of, rest_of, same_number, both_true}
@@ -99,7 +100,7 @@ more_keys old between new a b = (keys_again old between new a.0 b.0, b.1 ∙ a.1
 pub record HasBetween (first entries : List Entry) (s : Spaces) (old new : Words) (keys : List Key) : Type 0 where
   pub single : IsSingle entries
   pub own : (slot : ℕ) (e : Entry) → slice_get entries slot ≡ Some e → e.g ≡ false
-  pub backed : (slot : ℕ) (e : Entry) (p : ℕ) → slice_get entries slot ≡ Some e → 0 < p → 0 < e.asid → number_of s p ≡ e.asid → e.vpn < 2 ^ 19
+  pub backed : (slot : ℕ) (e : Entry) (p : ℕ) → slice_get entries slot ≡ Some e → 0 < p → 0 < e.asid → space_number s p ≡ e.asid → e.vpn < 2 ^ 19
       → (e ≡ entry_of (hi_of e.vpn e.asid) (new p e.vpn)) ⊎ ((is_hit p e.vpn keys ≡ true) × (e ≡ entry_of (hi_of e.vpn e.asid) (old p e.vpn)))
   -- what is of no user's page stands where it stood
   pub tables : (slot : ℕ) (e : Entry) → slice_get first slot ≡ Some e → 2 ^ 19 ≤ e.vpn → slice_get entries slot ≡ Some e
@@ -122,7 +123,7 @@ module _ (first entries : List Entry) (s : Spaces) (old new : Words) (key : Key)
       by true is = let both = both_true (p == key.process) (v == key.address / 2 ^ 12) is in absurd (other (same_number p key.process both.0) (same_number v (key.address / 2 ^ 12) both.1))
       by false is = sym (ap (λ (x : Bool). x || is_hit p v keys) is) ∙ hit
 
-  stays : (slot : ℕ) (f : Entry) (p : ℕ) → slice_get entries slot ≡ Some f → 0 < p → 0 < f.asid → number_of s p ≡ f.asid → f.vpn < 2 ^ 19 → (p ≡ key.process → f.vpn ≡ vpn → ⊥)
+  stays : (slot : ℕ) (f : Entry) (p : ℕ) → slice_get entries slot ≡ Some f → 0 < p → 0 < f.asid → space_number s p ≡ f.asid → f.vpn < 2 ^ 19 → (p ≡ key.process → f.vpn ≡ vpn → ⊥)
       → (f ≡ entry_of (hi_of f.vpn f.asid) (new p f.vpn)) ⊎ ((is_hit p f.vpn keys ≡ true) × (f ≡ entry_of (hi_of f.vpn f.asid) (old p f.vpn)))
   stays slot f p at live some number user other = elim (b.backed slot f p at live some number user) [
     | inl done ↦ inl done
@@ -130,11 +131,11 @@ module _ (first entries : List Entry) (s : Spaces) (old new : Words) (key : Key)
   ]
 
   -- no entry of the key's stands there
-  none_there : ((slot : ℕ) (f : Entry) → slice_get entries slot ≡ Some f → 0 < f.asid → number_of s key.process ≡ f.asid → f.vpn ≡ vpn → ⊥) → HasBetween first entries s old new keys
+  none_there : ((slot : ℕ) (f : Entry) → slice_get entries slot ≡ Some f → 0 < f.asid → space_number s key.process ≡ f.asid → f.vpn ≡ vpn → ⊥) → HasBetween first entries s old new keys
   none_there none = record {
     single = b.single;
     own = b.own;
-    backed = λ slot f p at live some number user. stays slot f p at live some number user (λ own same. none slot f at some (sym (ap (number_of s) own) ∙ number) same);
+    backed = λ slot f p at live some number user. stays slot f p at live some number user (λ own same. none slot f at some (sym (ap (space_number s) own) ∙ number) same);
     tables = b.tables;
   }
 
@@ -142,7 +143,7 @@ module _ (first entries : List Entry) (s : Spaces) (old new : Words) (key : Key)
   turned_match f x m = grind (arith, nat_tests)
 
   -- one does
-  one_there : (asid here : ℕ) (was : Entry) → number_of s key.process ≡ asid → 0 < asid → Some here ≡ find entries vpn asid → slice_get entries here ≡ Some was → (was.vpn ≡ vpn) × (was.asid ≡ asid)
+  one_there : (asid here : ℕ) (was : Entry) → space_number s key.process ≡ asid → 0 < asid → Some here ≡ find entries vpn asid → slice_get entries here ≡ Some was → (was.vpn ≡ vpn) × (was.asid ≡ asid)
       → HasBetween first (slice_set entries here (with_lo was w)) s old new keys
   one_there asid here was held some is stood keyed = record {
     single = set_single entries here (with_lo was w) b.single (λ j f at m. b.single.same_slot j here f was at stood (turned_match f was (match_by_keys (with_lo was w) f was (owned key.process vpn small) (b.own j f at) (b.own here was stood) refl refl m)));
@@ -161,7 +162,7 @@ module _ (first entries : List Entry) (s : Spaces) (old new : Words) (key : Key)
           inl (there.1 ∙ (is_entry was w within few
           ∙ (ap₂ (λ (v a : ℕ). entry_of (hi_of v a) w) (sym page) (sym space)
           ∙ ap₂ (λ (q v : ℕ). entry_of (hi_of f.vpn f.asid) (new q v)) (sym owner) (sym (page ∙ keyed.0)))))
-      | inr there ↦ stays slot f p there.1 live has number user (λ own same. (let hit : Some here ≡ Some slot = is ∙ found_there entries vpn asid slot f (find entries vpn asid) b.single refl there.1 (matches_itself f vpn asid same (sym number ∙ (ap (number_of s) own ∙ held))) in let at_here : slot ≡ here = cc in there.0 at_here))
+      | inr there ↦ stays slot f p there.1 live has number user (λ own same. (let hit : Some here ≡ Some slot = is ∙ found_there entries vpn asid slot f (find entries vpn asid) b.single refl there.1 (matches_itself f vpn asid same (sym number ∙ (ap (space_number s) own ∙ held))) in let at_here : slot ≡ here = cc in there.0 at_here))
     ];
     tables = λ slot e at high. read_set_other entries here slot (with_lo was w) (λ (same : ◌≡◌ {A = ℕ} slot here).
         (let there : slice_get entries here ≡ Some e = ap (slice_get entries) (sym same) ∙ b.tables slot e at high in
@@ -171,7 +172,7 @@ module _ (first entries : List Entry) (s : Spaces) (old new : Words) (key : Key)
         let low = small in omega (arith, page, high, low))) ∙ b.tables slot e at high;
   }
 
-  by_found : (asid : ℕ) (found : Option ℕ) → number_of s key.process ≡ asid → 0 < asid → found ≡ find entries vpn asid → HasBetween first (found_rewritten entries w found) s old new keys
+  by_found : (asid : ℕ) (found : Option ℕ) → space_number s key.process ≡ asid → 0 < asid → found ≡ find entries vpn asid → HasBetween first (found_rewritten entries w found) s old new keys
   by_found asid None held some is = none_there (λ slot f at has number same. (let hit : None ≡ Some slot = is ∙ found_there entries vpn asid slot f (find entries vpn asid) b.single refl at (matches_itself f vpn asid same (sym number ∙ held)) in absurd cc))
   by_found asid (Some here) held some is =
       let stood = entry_of_match vpn asid entries here (found_matches vpn asid entries here (sym is)) in
@@ -179,7 +180,7 @@ module _ (first entries : List Entry) (s : Spaces) (old new : Words) (key : Key)
       (one_there asid here stood.0 held some is stood.1 (keys_of vpn asid stood.0 (b.own here stood.0 stood.1) stood.2))
 
   pub by_held : (held : Option ℕ) → number_held s key.process ≡ held → HasBetween first (with_entry_lo entries vpn held w) s old new keys
-  by_held None none = none_there (λ slot f at has number same. (let zero_there : number_of s key.process ≡ 0 = none_held s key.process none in omega (arith, zero_there, number, has)))
+  by_held None none = none_there (λ slot f at has number same. (let zero_there : space_number s key.process ≡ 0 = none_held s key.process none in omega (arith, zero_there, number, has)))
   by_held (Some asid) some = by_found asid (find entries vpn asid) (some_held s key.process asid some) (held_some s key.process asid some) refl
 
 between : (first entries : List Entry) (s : Spaces) (old new : Words) (keys : List Key) (t : Places) → AreApart s → AreOwn new → All (IsKey t new) keys → HasBetween first entries s old new keys → HasBetween first (refreshed entries s new keys) s old new []
@@ -192,7 +193,7 @@ between first entries s old new (key ∷ keys) t apart owned all b =
 pub record HasEntries (first entries : List Entry) (s : Spaces) (words : Words) : Type 0 where
   pub single : IsSingle entries
   pub own : (slot : ℕ) (e : Entry) → slice_get entries slot ≡ Some e → e.g ≡ false
-  pub backed : (slot : ℕ) (e : Entry) (p : ℕ) → slice_get entries slot ≡ Some e → 0 < p → 0 < e.asid → number_of s p ≡ e.asid → e.vpn < 2 ^ 19 → e ≡ entry_of (hi_of e.vpn e.asid) (words p e.vpn)
+  pub backed : (slot : ℕ) (e : Entry) (p : ℕ) → slice_get entries slot ≡ Some e → 0 < p → 0 < e.asid → space_number s p ≡ e.asid → e.vpn < 2 ^ 19 → e ≡ entry_of (hi_of e.vpn e.asid) (words p e.vpn)
   pub tables : (slot : ℕ) (e : Entry) → slice_get first slot ≡ Some e → 2 ^ 19 ≤ e.vpn → slice_get entries slot ≡ Some e
 
 pub entries_written : (entries : List Entry) (s : Spaces) (old new : Words) (keys : List Key) (t : Places) → AreApart s → AreOwn new → All (IsKey t new) keys

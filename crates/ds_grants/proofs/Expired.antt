@@ -6,11 +6,13 @@ use Rattle.ds_policy.specs.declared.grant.Entry.{Entry}
 use Rattle.ds_policy.specs.declared.grant.Grant.{Grant}
 use Rattle.ds_policy.specs.Pages.{Table, entries_of, entry_at, put}
 use Rattle.ds_policy.specs.Grants.{forbidden_by}
-use Rattle.ds_policy.specs.Ends.{has_expired, expired_entry, has_some_expired, expired_table, expired, first_expired}
-use Rattle.ds_grants.specs.State.{GrantsState, page_state, with_grant}
-use Rattle.ds_grants.specs.Sound.{IsGoodRow}
-use Rattle.ds_grants.specs.Order.{is_no_page}
-use Rattle.ds_grants.specs.Changes.{places_in}
+use Rattle.ds_policy.specs.Ends.{has_expired, expired_entry, has_some_expired, expired_table, expired}
+use Rattle.ds_policy.specs.Inner.Ends.{first_expired}
+use Rattle.ds_grants.specs.State.{GrantsState, page_state}
+use Rattle.ds_grants.specs.Inner.State.{with_grant}
+use Rattle.ds_grants.specs.Inner.Sound.{IsGoodRow}
+use Rattle.ds_grants.specs.Inner.Order.{is_no_page}
+use Rattle.ds_grants.specs.Inner.Changes.{places_in}
 use Rattle.ds_grants.proofs.Living.{fewer_state}
 use Rattle.ds_grants.proofs.FirstWhere.{first_where, first_found, first_page, put_others, put_places, none_changed, none_placed}
 use Rattle.ds_grants.proofs.ChildRows.{changed_holders, rows_holders}

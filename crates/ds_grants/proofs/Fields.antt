@@ -12,7 +12,8 @@ use Rattle.ds_policy.specs.Grants.{is_some_right, is_write}
 use Rattle.ds_grants.specs.State.{GrantsState, frame_of_page, is_shared}
 use Rattle.ds_tables.specs.Places.{Places, page_of_table}
 use Rattle.ds_grants.specs.Words.{page_word, word_of_right, word_of_grant, granted_word}
-use Rattle.ds_grants.specs.Buffer.{hi_of, read_only, lo_of, IsMapped, entry_for}
+use Rattle.ds_grants.specs.Buffer.{hi_of, read_only, lo_of, IsMapped}
+use Rattle.ds_grants.specs.Inner.Buffer.{entry_for}
 
 -- the keys that an entry of two words has
 pub has_page : (vpn asid lo : ℕ) → vpn < 2 ^ 20 → asid < 64 → (entry_of (hi_of vpn asid) lo).vpn ≡ vpn

@@ -6,7 +6,8 @@ use Rattle.std.proofs.lemmas.Bool.{cases_Bool}
 use Rattle.std.proofs.lemmas.Bool.Decides.{nat_tests}
 use Rattle.ds_policy.specs.declared.grant.Entry.{Entry}
 use Rattle.ds_policy.specs.Grants.{region, count_distinct}
-use Rattle.ds_tables.specs.Places.{Places, holds, is_free, places_of, place_of, free_place, has_place, region_of}
+use Rattle.ds_tables.specs.Places.{Places, holds, places_of, region_place, region_of}
+use Rattle.ds_tables.specs.Inner.Places.{is_free, free_place, has_place}
 use Rattle.ds_grants.specs.Words.{regions_taken}
 
 abbrev pub has : ℕ → List ℕ → Bool
@@ -137,7 +138,7 @@ held_by_taken r (None ∷ ps) = held_by_taken r ps
 held_by_taken r (Some q ∷ ps) = ap (λ (b : Bool). (q == r) || b) (held_by_taken r ps)
 
 -- a region has a table exactly where it is among those that places hold
-pub placed_by_taken : (t : Places) (p r : ℕ) → is_some (place_of t p r) ≡ has r (regions_taken (places_of t p))
+pub placed_by_taken : (t : Places) (p r : ℕ) → is_some (region_place t p r) ≡ has r (regions_taken (places_of t p))
 placed_by_taken t p r = found_by_test (holds r) (places_of t p) ∙ held_by_taken r (places_of t p)
 
 few_taken : (ps : List (Option ℕ)) → length (regions_taken ps) ≤ length ps
@@ -170,7 +171,7 @@ by_count n false few = elim (cases_Bool (nat_lt n 4)) [ inl e ↦ rw e (grind (a
 
 -- An entry would open a fifth region of a process exactly where there is no place for its region's table.
 pub fifth_by_places : (t : Places) (p r : ℕ) (es : List Entry) → length (places_of t p) ≡ 4 → count_distinct (regions_taken (places_of t p)) ≡ length (regions_taken (places_of t p))
-    → ((s : ℕ) → is_some (place_of t p s) ≡ list_any (λ (e : Entry). region_of e.address == s) es)
+    → ((s : ℕ) → is_some (region_place t p s) ≡ list_any (λ (e : Entry). region_of e.address == s) es)
     → nat_lt 4 (count_distinct (r ∷ regions_of es)) ≡ not (has_place t p r)
 fifth_by_places t p r es four distinct regions =
     let ps : List (Option ℕ) = places_of t p in

@@ -13,9 +13,10 @@ use Rattle.ds_tlb.specs.Singles.{match_each_other}
 use Rattle.ds_tlb.specs.Words.{entry_of}
 use Rattle.ds_tlb.proofs.Matches.{empty_entries_are_single}
 use Rattle.ds_tables.specs.Places.{Places}
-use Rattle.ds_asid.specs.Spaces.{Spaces, AreApart, number_of}
+use Rattle.ds_asid.specs.Spaces.{Spaces, AreApart, space_number}
 use Rattle.ds_grants.specs.State.{GrantsState}
-use Rattle.ds_grants.specs.Buffer.{hi_of, lo_of, IsMapped, IsBacked, BufferHolds, entry_for, filled}
+use Rattle.ds_grants.specs.Buffer.{hi_of, lo_of, IsMapped, IsBacked, BufferHolds}
+use Rattle.ds_grants.specs.Inner.Buffer.{entry_for, filled}
 use Rattle.ds_grants.proofs.Translations.{at_set, set_single, found_there}
 use Rattle.ds_grants.proofs.Fields.{has_page, has_space, mapped_small, lo_own}
 
@@ -87,12 +88,12 @@ find_filled entries g t p vpn asid slot page space within none = find_written en
 answers : (e f : Entry) → f.g ≡ false → e.g ≡ false → match_each_other e f ≡ true → matches e.vpn e.asid f ≡ true
 answers e f h g m = grind (arith, nat_tests)
 
-written_buffer : (entries : List Entry) (s : Spaces) (g : GrantsState) (t : Places) (p vpn slot : ℕ) → AreApart s → BufferHolds entries s g t → 0 < p → 0 < number_of s p
-    → IsMapped vpn → ((j : ℕ) → find entries vpn (number_of s p) ≡ Some j → j ≡ slot) → BufferHolds (slice_set entries slot (entry_for g t p (number_of s p) vpn)) s g t
+written_buffer : (entries : List Entry) (s : Spaces) (g : GrantsState) (t : Places) (p vpn slot : ℕ) → AreApart s → BufferHolds entries s g t → 0 < p → 0 < space_number s p
+    → IsMapped vpn → ((j : ℕ) → find entries vpn (space_number s p) ≡ Some j → j ≡ slot) → BufferHolds (slice_set entries slot (entry_for g t p (space_number s p) vpn)) s g t
 written_buffer entries s g t p vpn slot apart k live some mapped there =
-    let asid : ℕ = number_of s p in
-    let below : number_of s p < s.next = apart.used p in
-    let few : number_of s p < 64 = (let most = apart.high in omega (arith, below, most)) in
+    let asid : ℕ = space_number s p in
+    let below : space_number s p < s.next = apart.used p in
+    let few : space_number s p < 64 = (let most = apart.high in omega (arith, below, most)) in
     let e : Entry = entry_of (hi_of vpn asid) (lo_of g t p vpn) in
     let page : e.vpn ≡ vpn = has_page vpn asid (lo_of g t p vpn) (mapped_small vpn mapped) few in
     let space : e.asid ≡ asid = has_space vpn asid (lo_of g t p vpn) (mapped_small vpn mapped) few in
@@ -127,13 +128,13 @@ where_found : (slot j : ℕ) (found : Option ℕ) → found ≡ Some j → j ≡
 where_found slot j found is = rw is refl
 
 -- a fill in the place of what is there for the page
-pub filled_buffer : (entries : List Entry) (s : Spaces) (g : GrantsState) (t : Places) (p vpn slot : ℕ) → AreApart s → BufferHolds entries s g t → 0 < p → 0 < number_of s p
-    → IsMapped vpn → BufferHolds (filled entries vpn (number_of s p) slot (entry_for g t p (number_of s p) vpn)) s g t
+pub filled_buffer : (entries : List Entry) (s : Spaces) (g : GrantsState) (t : Places) (p vpn slot : ℕ) → AreApart s → BufferHolds entries s g t → 0 < p → 0 < space_number s p
+    → IsMapped vpn → BufferHolds (filled entries vpn (space_number s p) slot (entry_for g t p (space_number s p) vpn)) s g t
 filled_buffer entries s g t p vpn slot apart k live some mapped =
-    written_buffer entries s g t p vpn (unwrap_or (find entries vpn (number_of s p)) slot) apart k live some mapped (λ j is. where_found slot j (find entries vpn (number_of s p)) is)
+    written_buffer entries s g t p vpn (unwrap_or (find entries vpn (space_number s p)) slot) apart k live some mapped (λ j is. where_found slot j (find entries vpn (space_number s p)) is)
 
 -- a fill after a miss, in any slot
-pub missed_buffer : (entries : List Entry) (s : Spaces) (g : GrantsState) (t : Places) (p vpn slot : ℕ) → AreApart s → BufferHolds entries s g t → 0 < p → 0 < number_of s p
-    → IsMapped vpn → find entries vpn (number_of s p) ≡ None → BufferHolds (slice_set entries slot (entry_for g t p (number_of s p) vpn)) s g t
+pub missed_buffer : (entries : List Entry) (s : Spaces) (g : GrantsState) (t : Places) (p vpn slot : ℕ) → AreApart s → BufferHolds entries s g t → 0 < p → 0 < space_number s p
+    → IsMapped vpn → find entries vpn (space_number s p) ≡ None → BufferHolds (slice_set entries slot (entry_for g t p (space_number s p) vpn)) s g t
 missed_buffer entries s g t p vpn slot apart k live some mapped none =
     written_buffer entries s g t p vpn slot apart k live some mapped (λ j is. (let no : None ≡ Some j = sym none ∙ is in absurd cc))

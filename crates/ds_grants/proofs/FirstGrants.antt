@@ -13,12 +13,14 @@ use Rattle.ds_policy.specs.declared.policy.PolicyRule.{PolicyRule}
 use Rattle.ds_policy.specs.Value.{PolicyValue}
 use Rattle.ds_policy.specs.Pages.{Table, entries_of, entry_at, found, put, names, is_named_by}
 use Rattle.ds_policy.specs.PolicyFacts.{IsGoodRule, HasFewRules}
-use Rattle.ds_policy.specs.FirstTable.{granted_by, with_rule, with_rules, table_of, HasRoom, AreWithin}
+use Rattle.ds_policy.specs.FirstTable.{granted_by, with_rule, with_rules, table_of}
+use Rattle.ds_policy.specs.Inner.FirstTable.{HasRoom, AreWithin}
 use Rattle.ds_policy.proofs.Filling.{room_step, room_in_empty, good_within, IsAbout}
-use Rattle.ds_grants.specs.Counts.{holders_in, holders_of}
-use Rattle.ds_grants.specs.State.{place_of_page}
-use Rattle.ds_grants.specs.First.{no_grants, first_grants, first_place, AreInOrder}
-use Rattle.ds_grants.specs.Sound.{AreCounted, IsWhole, IsAtPage, has_same_address, IsGoodRow, IsSound}
+use Rattle.ds_grants.specs.Inner.Counts.{holders_in, holders_of}
+use Rattle.ds_grants.specs.Inner.State.{place_of_page}
+use Rattle.ds_grants.specs.First.{first_grants}
+use Rattle.ds_grants.specs.Inner.First.{no_grants, first_place, AreInOrder}
+use Rattle.ds_grants.specs.Inner.Sound.{AreCounted, IsWhole, IsAtPage, has_same_address, IsGoodRow, IsSound}
 use Rattle.ds_grants.proofs.HolderCounts.{named_by_holders}
 use Rattle.ds_grants.proofs.Sizes.{all_put, put_places, empty_row}
 

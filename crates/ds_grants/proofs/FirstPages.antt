@@ -40,7 +40,7 @@ filled_more contents at f old between bytes frame long size is before =
         | inl below ↦
             let apart : (g * 4096 + 4096 ≤ f * 4096) ⊎ (f * 4096 + 4096 ≤ g * 4096) = inl (omega arith) in
             frame_of-with_frame_apart between bytes f g long inside apart ∙ before.elsewhere g (inl below)
-        | inr behind ↦
+        | inr afterwards ↦
             let apart : (g * 4096 + 4096 ≤ f * 4096) ⊎ (f * 4096 + 4096 ≤ g * 4096) = inr (omega arith) in
             frame_of-with_frame_apart between bytes f g long inside apart ∙ before.elsewhere g (inr (omega arith))
       ];

@@ -9,8 +9,8 @@ use Rattle.ds_policy.specs.declared.grant.Entry.{Entry}
 use Rattle.ds_policy.specs.declared.grant.EntryPlace.{EntryPlace}
 use Rattle.ds_policy.specs.declared.grant.Grant.{Grant}
 use Rattle.ds_policy.specs.Pages.{found, put}
-use Rattle.ds_grants.specs.Sound.{IsAtPage, has_same_address}
-use Rattle.ds_grants.specs.Changes.{changed_where, places_in}
+use Rattle.ds_grants.specs.Inner.Sound.{IsAtPage, has_same_address}
+use Rattle.ds_grants.specs.Inner.Changes.{changed_where, places_in}
 use Rattle.ds_grants.proofs.FifthRegion.{itself}
 
 -- the first of the entries for which a test holds

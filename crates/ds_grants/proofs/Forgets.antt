@@ -10,10 +10,11 @@ use Rattle.ds_tlb.specs.Words.{entry_of}
 use Rattle.ds_grants.specs.State.{GrantsState}
 use Rattle.ds_grants.proofs.Translations.{at_set, set_single, found_there}
 use Rattle.ds_tables.specs.Places.{Places, region_of}
-use Rattle.ds_asid.specs.Spaces.{Spaces, number_of, number_held}
+use Rattle.ds_asid.specs.Spaces.{Spaces, space_number}
+use Rattle.ds_asid.specs.Inner.Spaces.{number_held}
 use Rattle.ds_asid.proofs.Apart.{none_held, some_held}
 use Rattle.ds_grants.specs.Buffer.{hi_of, lo_of, read_only, IsMapped, BufferHolds}
-use Rattle.ds_grants.specs.Changes.{cleared, forgotten, both_forgotten, IsChangedAt}
+use Rattle.ds_grants.specs.Inner.Changes.{cleared, forgotten, both_forgotten, IsChangedAt}
 use Rattle.ds_grants.proofs.Fields.{user_lo, table_lo}
 
 -- What is true of a buffer whatever is granted.
@@ -87,7 +88,7 @@ module _ (g h : GrantsState) (t u : Places) (p address : ℕ) (changed : IsChang
   same vpn q running (inr high) other table = by_table vpn q running high.0 table
 
   -- nothing stands there of a process that has no address space
-  kept_of_none : (entries : List Entry) (s : Spaces) → number_of s p ≡ 0 → BufferHolds entries s g t → BufferHolds entries s h u
+  kept_of_none : (entries : List Entry) (s : Spaces) → space_number s p ≡ 0 → BufferHolds entries s g t → BufferHolds entries s h u
   kept_of_none entries s none k = record {
     few = k.few;
     single = k.single;
@@ -95,12 +96,12 @@ module _ (g h : GrantsState) (t u : Places) (p address : ℕ) (changed : IsChang
     own = k.own;
     backed = λ slot e q at running some number.
         let b = k.backed slot e q at running some number in
-        let not_own : q ≡ p → ⊥ = λ own. (let zero_there : e.asid ≡ 0 = sym number ∙ (ap (number_of s) own ∙ none) in omega (arith, zero_there, some)) in
+        let not_own : q ≡ p → ⊥ = λ own. (let zero_there : e.asid ≡ 0 = sym number ∙ (ap (space_number s) own ∙ none) in omega (arith, zero_there, some)) in
         record { mapped = b.mapped; words = b.words ∙ ap (entry_of (hi_of e.vpn e.asid)) (same e.vpn q running b.mapped (λ own page. not_own own) (λ own page. not_own own)) };
     used = k.used;
   }
 
-  forgotten_of : (entries : List Entry) (s : Spaces) (asid : ℕ) → number_of s p ≡ asid → BufferHolds entries s g t → BufferHolds (both_forgotten entries address (Some asid)) s h u
+  forgotten_of : (entries : List Entry) (s : Spaces) (asid : ℕ) → space_number s p ≡ asid → BufferHolds entries s g t → BufferHolds (both_forgotten entries address (Some asid)) s h u
   forgotten_of entries s asid is k =
       let first = forgets entries (address / 2 ^ 12) asid (plain_of entries s g t k) in
       let second = forgets (forgotten entries (address / 2 ^ 12) asid) (0xC0000 + region_of address) asid first.0 in
@@ -115,7 +116,7 @@ module _ (g h : GrantsState) (t u : Places) (p address : ℕ) (changed : IsChang
             | inl start ↦ absurd (none_of_start slot e start some)
             | inr was ↦
                 let b = k.backed slot e q was.0 running some number in
-                let space : q ≡ p → e.asid ≡ asid = λ own. sym number ∙ (ap (number_of s) own ∙ is) in
+                let space : q ≡ p → e.asid ≡ asid = λ own. sym number ∙ (ap (space_number s) own ∙ is) in
                 record { mapped = b.mapped; words = b.words ∙ ap (entry_of (hi_of e.vpn e.asid)) (same e.vpn q running b.mapped (λ own page. was.1 page (space own)) (λ own page. stays.1 page (space own))) }
           ]
         ];

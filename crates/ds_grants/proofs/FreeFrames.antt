@@ -2,7 +2,7 @@
 use Rattle.std.proofs.Common.{◌≡◌, ℕ, zero, suc, ◌+◌, ◌<◌, ◌≤◌, ◌⊎◌, List, [], ◌∷◌, length, refl, arith, inl, inr}
 use Rattle.std.specs.Prelude.{slice_index}
 use Rattle.std.proofs.lemmas.List.Sums.{sum_by-cons}
-use Rattle.ds_grants.specs.Frames.{total}
+use Rattle.ds_grants.specs.Inner.Frames.{total}
 
 -- a place that holds 0
 abbrev pub HasZero : List ℕ → Type 0

@@ -6,8 +6,8 @@ use Rattle.std.proofs.lemmas.Bool.Decides.{nat_tests}
 use Rattle.std.proofs.lemmas.List.{at_drop_more}
 use Rattle.ds_policy.specs.declared.grant.Entry.{Entry}
 use Rattle.ds_policy.specs.Pages.{Table, entries_of}
-use Rattle.ds_grants.specs.Counts.{one_if_named, holders_in, holders_of}
-use Rattle.ds_grants.specs.Sound.{IsGoodRow}
+use Rattle.ds_grants.specs.Inner.Counts.{one_if_named, holders_in, holders_of}
+use Rattle.ds_grants.specs.Inner.Sound.{IsGoodRow}
 use Rattle.ds_grants.proofs.HolderCounts.{holders_few}
 
 -- the entries before a place are counted, and those from there on aren't

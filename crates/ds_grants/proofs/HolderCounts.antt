@@ -8,8 +8,8 @@ use Rattle.std.proofs.lemmas.Bool.Decides.{nat_tests}
 use Rattle.ds_policy.specs.declared.grant.Entry.{Entry}
 use Rattle.ds_policy.specs.declared.grant.Grant.{Grant}
 use Rattle.ds_policy.specs.Pages.{Table, names, found, put, entries_of, entry_at, with_entry, erased_entry, is_named_by}
-use Rattle.ds_grants.specs.Sound.{AreCounted, IsGoodRow}
-use Rattle.ds_grants.specs.Counts.{one_if_named, page_of, holders_in, holders_of, AreOneMore, AreOneFewer}
+use Rattle.ds_grants.specs.Inner.Sound.{AreCounted, IsGoodRow}
+use Rattle.ds_grants.specs.Inner.Counts.{one_if_named, page_of, holders_in, holders_of, AreOneMore, AreOneFewer}
 
 -- one at most
 one_at_most : (q : ℕ) (o : Option ℕ) → one_if_named q o ≤ 1

@@ -15,39 +15,44 @@ use Rattle.ds_policy.specs.declared.grant.Right.{Right}
 use Rattle.ds_policy.specs.declared.grant.Right.TheVariants.{Nothing, Read, Write}
 use Rattle.ds_policy.specs.Pages.{entries_of, entry_at, with_entry, erased_entry}
 use Rattle.ds_pagemap.proofs.Entries.{entry_at-with_entry, entry_at-erased_entry}
-use Rattle.ds_grants.specs.State.{GrantsState, is_shared, with_grant, erased_grant}
+use Rattle.ds_grants.specs.State.{GrantsState, is_shared}
+use Rattle.ds_grants.specs.Inner.State.{with_grant, erased_grant}
 use Rattle.ds_grants.specs.Sound.{AreLaidOut}
-use Rattle.ds_tables.specs.Places.{Places, ArePlaces, region_of, place_of, free_place, has_place, frame_of_place, page_of_table, table_frame, opened, closed, with_place, freed, places_of}
-use Rattle.ds_asid.specs.Spaces.{Spaces, number_held}
-use Rattle.ds_tables.specs.Tables as tables
-use Rattle.ds_tables.specs.Tables.{HasEmptyTable, with_table_by, with_table, with_entry_word, word_place, entry_word}
-use Rattle.ds_tables.proofs.PlaceLemmas.{is_place, is_free_place, placed, place_of-other, place_of-kept, row_placed, closed_row, four_places}
+use Rattle.ds_tables.specs.Places.{Places, ArePlaces, region_of, region_place, frame_of_place, page_of_table, table_frame, places_of}
+use Rattle.ds_tables.specs.Inner.Places.{free_place, has_place, opened, closed, with_place, freed}
+use Rattle.ds_asid.specs.Spaces.{Spaces}
+use Rattle.ds_asid.specs.Inner.Spaces.{number_held}
+use Rattle.ds_tables.specs.Inner.Tables as tables
+use Rattle.ds_tables.specs.Tables.{HasEmptyTable, table_word_place, entry_word}
+use Rattle.ds_tables.specs.Inner.Tables.{with_table_by, with_table, with_entry_word}
+use Rattle.ds_tables.proofs.PlaceLemmas.{is_place, is_free_place, placed, region_place-other, region_place-kept, row_placed, closed_row, four_places}
 use Rattle.ds_tables.proofs.Map.{frames_kept, opened_old, opened_not, opened_new}
 use Rattle.ds_grants.specs.Words.{word_of_right, word_of_grant, WordsHold}
-use Rattle.ds_grants.specs.Changes.{both_forgotten, is_used, memory_without, places_without, IsChangedAt}
-use Rattle.ds_grants.specs.Represented.{IsRepresented, Keeps, HasPlace, IsLow, IsHigh}
-use Rattle.ds_grants.specs.Order.{is_no_page}
+use Rattle.ds_grants.specs.Inner.Changes.{both_forgotten, is_used, memory_without, places_without, IsChangedAt}
+use Rattle.ds_grants.specs.Represented.{IsRepresented}
+use Rattle.ds_grants.specs.Inner.Represented.{Keeps, HasPlace, IsLow, IsHigh}
+use Rattle.ds_grants.specs.Inner.Order.{is_no_page}
 use Rattle.ds_grants.proofs.FifthRegion.{either, fifth_by_places}
 use Rattle.ds_grants.proofs.Puts.{put_holds, removed_holds, same_word, found_used, some_is, used_before}
 use Rattle.ds_grants.proofs.Forgets.{buffer_changed}
 
 -- Places after a region is opened, and after one is closed.
 
-opened_by : (t : Places) (p r : ℕ) (o f : Option ℕ) → place_of t p r ≡ o → free_place t p ≡ f → (opened t p r ≡ t) ⊎ ((k : ℕ) × (free_place t p ≡ Some k) × (place_of t p r ≡ None) × (opened t p r ≡ with_place t p k r))
+opened_by : (t : Places) (p r : ℕ) (o f : Option ℕ) → region_place t p r ≡ o → free_place t p ≡ f → (opened t p r ≡ t) ⊎ ((k : ℕ) × (free_place t p ≡ Some k) × (region_place t p r ≡ None) × (opened t p r ≡ with_place t p k r))
 opened_by t p r (Some i) f at free = inl (opened_old t p r i at)
 opened_by t p r None None at free = inl (opened_not t p r at free)
 opened_by t p r None (Some k) at free = inr (k, free, at, opened_new t p r k at free)
 
 pub opened_places : (t : Places) (p r : ℕ) → ArePlaces t → ArePlaces (opened t p r)
-opened_places t p r are = elim (opened_by t p r (place_of t p r) (free_place t p) refl refl) [
+opened_places t p r are = elim (opened_by t p r (region_place t p r) (free_place t p) refl refl) [
   | inl same ↦ subst ArePlaces (sym same) are
   | inr new ↦ (let spot = is_free_place t p new.0 are new.1 in subst ArePlaces (sym new.3) (placed t p new.0 r are spot.low spot.high))
 ]
 
 opened_tables : (t : Places) (p r q s : ℕ) → ArePlaces t → (q ≡ p → s ≡ r → ⊥) → page_of_table (opened t p r) q s ≡ page_of_table t q s
-opened_tables t p r q s are other = elim (opened_by t p r (place_of t p r) (free_place t p) refl refl) [
+opened_tables t p r q s are other = elim (opened_by t p r (region_place t p r) (free_place t p) refl refl) [
   | inl same ↦ ap (λ (u : Places). page_of_table u q s) same
-  | inr new ↦ ap (λ (u : Places). page_of_table u q s) new.3 ∙ ap (frame_of_place q) (place_of-other t p q new.0 r s (is_free_place t p new.0 are new.1) other)
+  | inr new ↦ ap (λ (u : Places). page_of_table u q s) new.3 ∙ ap (frame_of_place q) (region_place-other t p q new.0 r s (is_free_place t p new.0 are new.1) other)
 ]
 
 pub closed_places : (t : Places) (p r : ℕ) → ArePlaces t → 0 < p → p ≤ length t → ArePlaces (closed t p r)
@@ -133,7 +138,7 @@ module _ (entries : List Entry) (memory : List ℕ) (t : Places) (s : Spaces) (g
     where
       by_used : (b : Bool) (q r : ℕ) → (q ≡ p → r ≡ region_of a → ⊥) → page_of_table (cond b t (closed t p (region_of a))) q r ≡ page_of_table t q r
       by_used true q r other = refl
-      by_used false q r other = ap (frame_of_place q) (place_of-kept t p q (region_of a) r other)
+      by_used false q r other = ap (frame_of_place q) (region_place-kept t p q (region_of a) r other)
 
       places_by : (b : Bool) → ArePlaces (cond b t (closed t p (region_of a)))
       places_by true = k.places
@@ -146,12 +151,12 @@ module _ (entries : List Entry) (memory : List ℕ) (t : Places) (s : Spaces) (g
 -- a region that stays open had a table
 pub still_open : (memory : List ℕ) (t : Places) (g : GrantsState) (p a : ℕ) → WordsHold memory t g → 0 < p → p ≤ length g.table → is_used (erased_grant g p a) p (region_of a) ≡ true → opened t p (region_of a) ≡ t
 still_open memory t g p a k low high stays =
-    let there = some_is (place_of t p (region_of a)) (k.regions p (region_of a) low ∙ used_before g.table p a low high stays) in
+    let there = some_is (region_place t p (region_of a)) (k.regions p (region_of a) low ∙ used_before g.table p a low high stays) in
     opened_old t p (region_of a) there.0 there.1
 
 -- Memory of which tables alone changed, and memory of which pages alone did.
 
-table_in_memory : (t : Places) (p r : ℕ) (o : Option ℕ) → ArePlaces t → place_of t p r ≡ o → frame_of_place p o < 402
+table_in_memory : (t : Places) (p r : ℕ) (o : Option ℕ) → ArePlaces t → region_place t p r ≡ o → frame_of_place p o < 402
 table_in_memory t p r None are at = omega arith
 table_in_memory t p r (Some i) are at = let here = is_place t p r i are at in let few = here.few in let low = here.low in let within = here.within in omega arith
 
@@ -167,14 +172,14 @@ pub low_put : (memory : List ℕ) (t : Places) (p a w : ℕ) → ArePlaces t →
 low_put memory t p a w are long = (as_long (has_place t p (region_of a)), λ f apart. frames_kept memory t p a w f are long apart)
   where
     middle : length (with_table memory t p (region_of a)) ≡ length memory
-    middle = as_long_table memory t p (place_of t p (region_of a)) (free_place t p) are refl long
+    middle = as_long_table memory t p (region_place t p (region_of a)) (free_place t p) are refl long
 
     frame : page_of_table (opened t p (region_of a)) p (region_of a) < 402
-    frame = table_in_memory (opened t p (region_of a)) p (region_of a) (place_of (opened t p (region_of a)) p (region_of a)) (opened_places t p (region_of a) are) refl
+    frame = table_in_memory (opened t p (region_of a)) p (region_of a) (region_place (opened t p (region_of a)) p (region_of a)) (opened_places t p (region_of a) are) refl
 
     as_long : (b : Bool) → length (cond b (with_entry_word (with_table memory t p (region_of a)) (opened t p (region_of a)) p a w) memory) ≡ length memory
     as_long true =
-        let x : ℕ = word_place (page_of_table (opened t p (region_of a)) p (region_of a)) a in
+        let x : ℕ = table_word_place (page_of_table (opened t p (region_of a)) p (region_of a)) a in
         let within : x - x % 4 + 4 ≤ length (with_table memory t p (region_of a)) = omega (arith, middle, frame, long) in
         length-with_word (with_table memory t p (region_of a)) x w within ∙ middle
     as_long false = refl
@@ -189,7 +194,7 @@ low_removed memory t g p a are long = by_used (is_used (erased_grant g p a) p (r
 pub word_kept : (old new : List ℕ) (t : Places) (p a : ℕ) → ArePlaces t → IsHigh old new → entry_word new t p a ≡ entry_word old t p a
 word_kept old new t p a are high =
     word_at-same_frame old new (page_of_table t p (region_of a)) (a / 2 ^ 12 % 2 ^ 10 * 4) (omega arith)
-    (high.1 (page_of_table t p (region_of a)) (table_in_memory t p (region_of a) (place_of t p (region_of a)) are refl))
+    (high.1 (page_of_table t p (region_of a)) (table_in_memory t p (region_of a) (region_place t p (region_of a)) are refl))
 
 pub high_kept : (entries : List Entry) (old new : List ℕ) (t : Places) (s : Spaces) (g : GrantsState) → IsHigh old new → IsRepresented entries old t s g → IsRepresented entries new t s g
 high_kept entries old new t s g high k = record {

@@ -8,10 +8,12 @@ use Rattle.std.proofs.lemmas.List.{get_or-set_same, get_or-set_other, length-rep
 use Rattle.std.proofs.lemmas.List.FromFn.{length-range_with_len, get_or-range_with_len}
 use Rattle.ds_policy.specs.declared.grant.Grant.{Grant}
 use Rattle.ds_policy.specs.Pages.{Table, names, with_entry, is_named_by}
-use Rattle.ds_grants.specs.State.{GrantsState, is_live, is_shared, with_grant}
-use Rattle.ds_grants.specs.Counts.{holders_of}
-use Rattle.ds_grants.specs.Sound.{AreCounted, AreLaidOut, IsSound}
-use Rattle.ds_grants.specs.Copies.{with_copy, IsMarked, LiesOtherwise}
+use Rattle.ds_grants.specs.State.{GrantsState, is_live, is_shared}
+use Rattle.ds_grants.specs.Inner.State.{with_grant}
+use Rattle.ds_grants.specs.Inner.Counts.{holders_of}
+use Rattle.ds_grants.specs.Sound.{AreLaidOut}
+use Rattle.ds_grants.specs.Inner.Sound.{AreCounted, IsSound}
+use Rattle.ds_grants.specs.Inner.Copies.{with_copy, IsMarked, LiesOtherwise}
 use Rattle.ds_grants.proofs.HolderCounts.{holders_with, named_by_holders, counted_within}
 use Rattle.ds_grants.proofs.Living.{some_of, none_named}
 

@@ -12,9 +12,10 @@ use Rattle.ds_policy.specs.declared.grant.Right.TheVariants.{Read}
 use Rattle.ds_policy.specs.Pages.{Table, Pages, names, entry_at, entries_of, with_entry, erased_entry, is_named_by, kept}
 use Rattle.ds_policy.specs.Families.{parent_of, without_entry}
 use Rattle.ds_policy.specs.Grants.{granted, removed, live_only}
-use Rattle.ds_grants.specs.State.{GrantsState, is_live, page_in, pages_in, page_state, with_grant, without_grant}
-use Rattle.ds_grants.specs.Represented.{IsLow}
-use Rattle.ds_grants.specs.Counts.{one_if_named, page_of, holders_of}
+use Rattle.ds_grants.specs.State.{GrantsState, is_live, page_in, pages_in, page_state}
+use Rattle.ds_grants.specs.Inner.State.{with_grant, without_grant}
+use Rattle.ds_grants.specs.Inner.Represented.{IsLow}
+use Rattle.ds_grants.specs.Inner.Counts.{one_if_named, page_of, holders_of}
 use Rattle.ds_grants.proofs.Bare.{alike_holders, handed_alike}
 use Rattle.ds_grants.proofs.HolderCounts.{holders_with, holders_erased, named_by_holders, found_holds, row_holders}
 

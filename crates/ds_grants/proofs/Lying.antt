@@ -11,10 +11,11 @@ use Rattle.ds_policy.specs.declared.grant.Grant.{Grant}
 use Rattle.ds_policy.specs.Pages.{Table, names, entries_of, entry_at}
 use Rattle.ds_tables.specs.Places.{Places, region_of, page_of_table}
 use Rattle.ds_asid.specs.Spaces.{Spaces}
-use Rattle.ds_grants.specs.State.{GrantsState, is_live, place_of_page}
+use Rattle.ds_grants.specs.State.{GrantsState, is_live}
+use Rattle.ds_grants.specs.Inner.State.{place_of_page}
 use Rattle.ds_grants.specs.Words.{word_of_grant, granted_word}
 use Rattle.ds_grants.specs.Buffer.{hi_of, read_only, lo_of}
-use Rattle.ds_grants.specs.Represented.{HasWords, IsRepresented}
+use Rattle.ds_grants.specs.Represented.{TablesHaveWords, IsRepresented}
 use Rattle.ds_grants.proofs.HolderCounts.{itself}
 use Rattle.ds_grants.proofs.Living.{found_lives}
 use Rattle.ds_grants.proofs.Puts.{word_by_place}
@@ -27,7 +28,7 @@ same_words g h p a (Some grant) is places = word_by_place g h grant.right grant.
 
 -- words depend on the table, and on where the pages lie that its entries name
 pub by_table : (memory : List ℕ) (t : Places) (g h : GrantsState) → h.table ≡ g.table
-    → ((p a : ℕ) (grant : Grant) → entry_at h.table p a ≡ Some grant → place_of_page h grant.page ≡ place_of_page g grant.page) → HasWords memory t g → HasWords memory t h
+    → ((p a : ℕ) (grant : Grant) → entry_at h.table p a ≡ Some grant → place_of_page h grant.page ≡ place_of_page g grant.page) → TablesHaveWords memory t g → TablesHaveWords memory t h
 by_table memory t g h same places k = record {
   words = record {
     words = λ p vpn live user. k.words.words p vpn live user ∙ (ap (λ (x : Table). word_of_grant g (entry_at x p (vpn * 2 ^ 12))) (sym same) ∙ sym (same_words g h p (vpn * 2 ^ 12) (entry_at h.table p (vpn * 2 ^ 12)) refl places));

@@ -16,12 +16,13 @@ use Rattle.ds_policy.specs.declared.grant.Right.TheVariants.{Write}
 use Rattle.ds_policy.specs.Grants.{is_some_right}
 use Rattle.ds_policy.specs.Pages.{Table, Pages, entry_at, found}
 use Rattle.ds_grants.specs.State.{GrantsState, is_live, is_shared, page_in, pages_in, page_state}
-use Rattle.ds_grants.specs.Sound.{AreCounted, AreLaidOut, IsSound}
-use Rattle.ds_grants.specs.Counts.{page_of}
-use Rattle.ds_grants.specs.Copies.{with_own_frame, LiesOtherwise}
-use Rattle.ds_grants.specs.Frames.{count_lying, AreLying, total}
+use Rattle.ds_grants.specs.Sound.{AreLaidOut}
+use Rattle.ds_grants.specs.Inner.Sound.{AreCounted, IsSound}
+use Rattle.ds_grants.specs.Inner.Counts.{page_of}
+use Rattle.ds_grants.specs.Inner.Copies.{with_own_frame, LiesOtherwise}
+use Rattle.ds_grants.specs.Inner.Frames.{count_lying, AreLying, total}
 use Rattle.ds_grants.proofs.FreeFrames.{free, sums}
-use Rattle.ds_grants.specs.Represented.{IsHigh}
+use Rattle.ds_grants.specs.Inner.Represented.{IsHigh}
 use Rattle.ds_grants.proofs.Copies.{frame_long, frames_apart}
 use Rattle.ds_grants.proofs.Sizes.{has_page}
 

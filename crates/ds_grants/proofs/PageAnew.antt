@@ -19,17 +19,20 @@ use Rattle.ds_policy.specs.declared.grant.Right.{Right}
 use Rattle.ds_policy.specs.declared.grant.Right.TheVariants.{Nothing, Read, Write}
 use Rattle.ds_policy.specs.Pages.{Table, entries_of, entry_at, found, names}
 use Rattle.ds_policy.specs.Grants.{is_some_right, is_write}
-use Rattle.ds_asid.specs.Spaces.{Spaces, number_of, number_held}
-use Rattle.ds_tables.specs.Places.{Places, region_of, place_of}
+use Rattle.ds_asid.specs.Spaces.{Spaces, space_number}
+use Rattle.ds_asid.specs.Inner.Spaces.{number_held}
+use Rattle.ds_tables.specs.Places.{Places, region_of, region_place}
 use Rattle.ds_tables.specs.Tables.{entry_word}
 use Rattle.ds_grants.specs.declared.layout.Place.{Place}
 use Rattle.ds_grants.specs.State.{GrantsState, is_shared}
 use Rattle.ds_grants.specs.Words.{word_of_right, word_of_grant, granted_word, WordsHold}
 use Rattle.ds_grants.specs.Buffer.{hi_of, lo_of, IsMapped, IsBacked}
-use Rattle.ds_grants.specs.Sound.{IsGoodRow, IsAtPage, has_same_address}
-use Rattle.ds_grants.specs.Copies.{LiesOtherwise, AreRewritten}
-use Rattle.ds_grants.specs.Represented.{IsRepresented, IsLow}
-use Rattle.ds_grants.specs.Rewords.{word_at, with_word, with_entry_lo, buffer_at, memory_of_row, buffer_of_row, memory_of_rows, buffer_of_rows}
+use Rattle.ds_grants.specs.Inner.Sound.{IsGoodRow, IsAtPage, has_same_address}
+use Rattle.ds_grants.specs.Copies.{AreRewritten}
+use Rattle.ds_grants.specs.Inner.Copies.{LiesOtherwise}
+use Rattle.ds_grants.specs.Represented.{IsRepresented}
+use Rattle.ds_grants.specs.Inner.Represented.{IsLow}
+use Rattle.ds_grants.specs.Inner.Rewords.{word_at, with_word, with_entry_lo, buffer_at, memory_of_row, buffer_of_row, memory_of_rows, buffer_of_rows}
 use Rattle.ds_grants.proofs.Fields.{user_lo, lo_own}
 use Rattle.ds_grants.proofs.WordsAnew.{Words, Key, is_hit, reworded, IsKey, first_of, rest_of, words_written}
 use Rattle.ds_grants.proofs.EntriesAnew.{refreshed, AreOwn, HasEntries, entries_written, entry_keys, same_keys, more_keys}
@@ -85,7 +88,7 @@ record IsRowEntry (t : Places) (table : Table) (p : ℕ) (e : granted.Entry) : T
   pub found : entry_at table p e.address ≡ Some e.grant
   pub page : e.address % 2 ^ 12 ≡ 0
   pub user : e.address < 2 ^ 31
-  pub region : is_some (place_of t p (region_of e.address)) ≡ true
+  pub region : is_some (region_place t p (region_of e.address)) ≡ true
 
 other_address : (e : granted.Entry) (es : List granted.Entry) (i : ℕ) (d : granted.Entry) → AllByRecursion (λ f. has_same_address e f ≡ false) es → i < length es → (e.address == (get_or es i d).address) ≡ false
 other_address e [] i d all within = absurd (omega (arith, within))
@@ -101,7 +104,7 @@ found_itself (e ∷ es) (suc i) d apart within =
 
 -- a region has a table exactly where an entry of the process lies in it
 abbrev HaveTables : Places → Table → Type 0
-HaveTables t table = (p r : ℕ) → 0 < p → is_some (place_of t p r) ≡ list_any (λ (e : granted.Entry). region_of e.address == r) (entries_of table p)
+HaveTables t table = (p r : ℕ) → 0 < p → is_some (region_place t p r) ≡ list_any (λ (e : granted.Entry). region_of e.address == r) (entries_of table p)
 
 row_entries : (t : Places) (table : Table) (p : ℕ) → 0 < p → HaveTables t table → IsGoodRow (entries_of table p) → All (IsRowEntry t table p) (entries_of table p)
 row_entries t table p live tables good = λ i d within. (let at : IsAtPage (get_or (entries_of table p) i d) = good.pages i d within in record {
@@ -338,7 +341,7 @@ module _ (t : Places) (old new : GrantsState) (page : ℕ) (place : Place) (few 
     lo_same : (p vpn : ℕ) → 2 ^ 19 ≤ vpn → lo_of old t p vpn ≡ lo_of new t p vpn
     lo_same p vpn high = (let above : nat_lt vpn (2 ^ 19) ≡ false = grind (arith, nat_tests) in rw above refl)
 
-    backed : (slot : ℕ) (f : Entry) (p : ℕ) → slice_get refilled slot ≡ Some f → 0 < p → 0 < f.asid → number_of s p ≡ f.asid → IsBacked new t p f
+    backed : (slot : ℕ) (f : Entry) (p : ℕ) → slice_get refilled slot ≡ Some f → 0 < p → 0 < f.asid → space_number s p ≡ f.asid → IsBacked new t p f
     backed slot f p at live some number = elim (cases_Bool (nat_lt f.vpn (2 ^ 19))) [
       | inl low ↦
           let user : f.vpn < 2 ^ 19 = grind (arith, nat_tests) in

@@ -14,14 +14,16 @@ use Rattle.ds_policy.proofs.DistinctCounts.{count_insert}
 use Rattle.ds_pagemap.proofs.Entries.{entry_at-with_entry, entry_at-erased_entry}
 use Rattle.ds_word.specs.Word.{bit}
 use Rattle.ds_grants.specs.declared.layout.Place.{Place}
-use Rattle.ds_grants.specs.State.{GrantsState, place_of_page, with_grant, erased_grant}
-use Rattle.ds_tables.specs.Places.{Places, ArePlaces, freed, region_of, places_of, place_of, free_place, has_place, opened, closed, with_place}
-use Rattle.ds_tables.specs.Tables as tables
+use Rattle.ds_grants.specs.State.{GrantsState}
+use Rattle.ds_grants.specs.Inner.State.{place_of_page, with_grant, erased_grant}
+use Rattle.ds_tables.specs.Places.{Places, ArePlaces, region_of, places_of, region_place}
+use Rattle.ds_tables.specs.Inner.Places.{freed, free_place, has_place, opened, closed, with_place}
+use Rattle.ds_tables.specs.Inner.Tables as tables
 use Rattle.ds_tables.specs.Tables.{HasEmptyTable, entry_word}
-use Rattle.ds_tables.proofs.PlaceLemmas.{places_at, no_places, is_free_place, four_places, place_of-new, place_of-other, place_of-closed, place_of-kept}
+use Rattle.ds_tables.proofs.PlaceLemmas.{places_at, no_places, is_free_place, four_places, region_place-new, region_place-other, region_place-closed, region_place-kept}
 use Rattle.ds_tables.proofs.Map.{put_words, closed_words, opened_old, opened_new}
 use Rattle.ds_grants.specs.Words.{word_of_right, word_of_grant, granted_word, regions_taken, WordsHold}
-use Rattle.ds_grants.specs.Changes.{is_used, memory_without, places_without}
+use Rattle.ds_grants.specs.Inner.Changes.{is_used, memory_without, places_without}
 use Rattle.ds_grants.proofs.FifthRegion.{same_number, itself, either, has, placed_by_taken}
 
 -- Entries of a row, put and removed.
@@ -182,38 +184,38 @@ none_is None e = refl
 none_is (Some k) e = absurd cc
 
 -- whether it had a table, or gets one at a free place
-opens : (t : Places) (p r : ℕ) → has_place t p r ≡ true → ((k : ℕ) × (place_of t p r ≡ Some k)) ⊎ ((place_of t p r ≡ None) × ((k : ℕ) × (free_place t p ≡ Some k)))
-opens t p r room = elim (cases_Bool (is_some (place_of t p r))) [
-  | inl old ↦ inl (some_is (place_of t p r) old)
-  | inr new ↦ inr (none_is (place_of t p r) new, some_is (free_place t p) (sym (ap (λ (b : Bool). b || is_some (free_place t p)) new) ∙ room))
+opens : (t : Places) (p r : ℕ) → has_place t p r ≡ true → ((k : ℕ) × (region_place t p r ≡ Some k)) ⊎ ((region_place t p r ≡ None) × ((k : ℕ) × (free_place t p ≡ Some k)))
+opens t p r room = elim (cases_Bool (is_some (region_place t p r))) [
+  | inl old ↦ inl (some_is (region_place t p r) old)
+  | inr new ↦ inr (none_is (region_place t p r) new, some_is (free_place t p) (sym (ap (λ (b : Bool). b || is_some (free_place t p)) new) ∙ room))
 ]
 
-opened_some : (t : Places) (p r q s : ℕ) → ArePlaces t → has_place t p r ≡ true → is_some (place_of (opened t p r) q s) ≡ (((q == p) && (r == s)) || is_some (place_of t q s))
+opened_some : (t : Places) (p r q s : ℕ) → ArePlaces t → has_place t p r ≡ true → is_some (region_place (opened t p r) q s) ≡ (((q == p) && (r == s)) || is_some (region_place t q s))
 opened_some t p r q s are room = elim (opens t p r room) [
   | inl old ↦
-      ap (λ (u : Places). is_some (place_of u q s)) (opened_old t p r old.0 old.1)
+      ap (λ (u : Places). is_some (region_place u q s)) (opened_old t p r old.0 old.1)
       ∙ elim (cases_Bool ((q == p) && (r == s))) [
         | inl hit ↦
             let both = both_true (q == p) (r == s) hit in
-            let here : place_of t q s ≡ Some old.0 = ap₂ place_of_t (same_number q p both.0) (sym (same_number r s both.1)) ∙ old.1 in
+            let here : region_place t q s ≡ Some old.0 = ap₂ place_of_t (same_number q p both.0) (sym (same_number r s both.1)) ∙ old.1 in
             rw hit (ap is_some here)
         | inr miss ↦ rw miss refl
       ]
   | inr new ↦
       let k : ℕ = new.1.0 in
       let spot = is_free_place t p k are new.1.1 in
-      ap (λ (u : Places). is_some (place_of u q s)) (opened_new t p r k new.0 new.1.1)
+      ap (λ (u : Places). is_some (region_place u q s)) (opened_new t p r k new.0 new.1.1)
       ∙ elim (cases_Bool ((q == p) && (r == s))) [
         | inl hit ↦
             let both = both_true (q == p) (r == s) hit in
-            let here : place_of (with_place t p k r) q s ≡ Some k = ap₂ (λ (x y : ℕ). place_of (with_place t p k r) x y) (same_number q p both.0) (sym (same_number r s both.1)) ∙ place_of-new t p k r are spot new.0 in
+            let here : region_place (with_place t p k r) q s ≡ Some k = ap₂ (λ (x y : ℕ). region_place (with_place t p k r) x y) (same_number q p both.0) (sym (same_number r s both.1)) ∙ region_place-new t p k r are spot new.0 in
             rw hit (ap is_some here)
-        | inr miss ↦ rw miss (ap is_some (place_of-other t p q k r s spot (λ own region. missed p q r s own region miss)))
+        | inr miss ↦ rw miss (ap is_some (region_place-other t p q k r s spot (λ own region. missed p q r s own region miss)))
       ]
 ]
   where
     place_of_t : ℕ → ℕ → Option ℕ
-    place_of_t x y = place_of t x y
+    place_of_t x y = region_place t x y
 
 opened_distinct : (t : Places) (p r : ℕ) → ArePlaces t → has_place t p r ≡ true → ((q : ℕ) → count_distinct (regions_taken (places_of t q)) ≡ length (regions_taken (places_of t q)))
     → (q : ℕ) → count_distinct (regions_taken (places_of (opened t p r) q)) ≡ length (regions_taken (places_of (opened t p r) q))
@@ -274,12 +276,12 @@ closed_distinct t p r low high distinct q =
       | inr foreign ↦ subst (λ (ps : List (Option ℕ)). count_distinct (regions_taken ps) ≡ length (regions_taken ps)) (sym (foreign_places t p q (map (freed r) (places_of t p)) low foreign)) (distinct q)
     ])
 
-closed_some : (t : Places) (p r q s : ℕ) → is_some (place_of (closed t p r) q s) ≡ (not ((q == p) && (r == s)) && is_some (place_of t q s))
+closed_some : (t : Places) (p r q s : ℕ) → is_some (region_place (closed t p r) q s) ≡ (not ((q == p) && (r == s)) && is_some (region_place t q s))
 closed_some t p r q s = elim (cases_Bool ((q == p) && (r == s))) [
   | inl hit ↦
       let both = both_true (q == p) (r == s) hit in
-      rw hit (ap is_some (ap₂ (λ (x y : ℕ). place_of (closed t p r) x y) (same_number q p both.0) (sym (same_number r s both.1)) ∙ place_of-closed t p r))
-  | inr miss ↦ rw miss (ap is_some (place_of-kept t p q r s (λ own region. missed p q r s own region miss)))
+      rw hit (ap is_some (ap₂ (λ (x y : ℕ). region_place (closed t p r) x y) (same_number q p both.0) (sym (same_number r s both.1)) ∙ region_place-closed t p r))
+  | inr miss ↦ rw miss (ap is_some (region_place-kept t p q r s (λ own region. missed p q r s own region miss)))
 ]
 
 -- a region that is used once an entry is gone was used before
@@ -330,11 +332,11 @@ module _ (memory : List ℕ) (t : Places) (g : GrantsState) (p a : ℕ) (k : Wor
         ];
     regions = λ q s live. opened_some t p (region_of a) q s are room ∙ elim (cases_eq q p) [
       | inl own ↦
-          ap (λ (b : Bool). (b && (region_of a == s)) || is_some (place_of t q s)) (ap (λ (n : ℕ). n == p) own ∙ itself p)
+          ap (λ (b : Bool). (b && (region_of a == s)) || is_some (region_place t q s)) (ap (λ (n : ℕ). n == p) own ∙ itself p)
           ∙ (ap (λ (b : Bool). (region_of a == s) || b) (k.regions q s live ∙ ap (λ (n : ℕ). used s (entries_of g.table n)) own)
           ∙ (sym (used_put s (entries_of g.table p) a grant) ∙ sym (ap (used s) (ap (entries_of (with_entry g.table p a grant)) own ∙ entries_put g.table p a grant low high))))
       | inr foreign ↦
-          ap (λ (b : Bool). (b && (region_of a == s)) || is_some (place_of t q s)) (let e : (q == p) ≡ false = grind (arith, nat_tests) in e)
+          ap (λ (b : Bool). (b && (region_of a == s)) || is_some (region_place t q s)) (let e : (q == p) ≡ false = grind (arith, nat_tests) in e)
           ∙ (k.regions q s live ∙ sym (ap (used s) (foreign_row g.table p q (put (entries_of g.table p) a grant) low live foreign)))
     ];
     distinct = opened_distinct t p (region_of a) are room k.distinct;
@@ -369,7 +371,7 @@ module _ (memory : List ℕ) (t : Places) (g : GrantsState) (p a : ℕ) (k : Wor
   keeps_table : used (region_of a) (entries_of (erased_entry g.table p a) p) ≡ true → WordsHold (tables.with_entry memory t p a 0) t less
   keeps_table stays =
       let used_first : used (region_of a) (entries_of g.table p) ≡ true = used_before g.table p a low high stays in
-      let placed = some_is (place_of t p (region_of a)) (k.regions p (region_of a) low ∙ used_first) in
+      let placed = some_is (region_place t p (region_of a)) (k.regions p (region_of a) low ∙ used_first) in
       let room : has_place t p (region_of a) ≡ true = ap (λ (o : Option ℕ). is_some o || is_some (free_place t p)) placed.1 in
       let same_places : opened t p (region_of a) ≡ t = opened_old t p (region_of a) placed.0 placed.1 in
       record {
@@ -385,7 +387,7 @@ module _ (memory : List ℕ) (t : Places) (g : GrantsState) (p a : ℕ) (k : Wor
           | inl here ↦ elim (cases_eq q p) [
             | inl own ↦
                 let is : region_of a ≡ s = same_number (region_of a) s here in
-                ap₂ (λ (x y : ℕ). is_some (place_of t x y)) own (sym is) ∙ (ap is_some placed.1 ∙ sym (ap₂ (λ (x y : ℕ). used y (entries_of (erased_entry g.table p a) x)) own (sym is) ∙ stays))
+                ap₂ (λ (x y : ℕ). is_some (region_place t x y)) own (sym is) ∙ (ap is_some placed.1 ∙ sym (ap₂ (λ (x y : ℕ). used y (entries_of (erased_entry g.table p a) x)) own (sym is) ∙ stays))
             | inr foreign ↦ k.regions q s live ∙ sym (used_less q s live (λ own. absurd (foreign own)))
           ]
           | inr other ↦ k.regions q s live ∙ sym (used_less q s live (λ own. other))

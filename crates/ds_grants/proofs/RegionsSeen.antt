@@ -18,9 +18,9 @@ abbrev pub regions_of : List Entry → List ℕ
 regions_of entries = map (λ e. region e.address) entries
 
 -- what follows in a list is in it
-has_behind : (a : ℕ) (xs ys : List ℕ) → has a ys ≡ true → has a (xs ++ ys) ≡ true
-has_behind a [] ys there = there
-has_behind a (x ∷ xs) ys there = elim (cases_Bool (x == a)) [ inl is ↦ rw is | inr other ↦ rw other (has_behind a xs ys there) ]
+has_after : (a : ℕ) (xs ys : List ℕ) → has a ys ≡ true → has a (xs ++ ys) ≡ true
+has_after a [] ys there = there
+has_after a (x ∷ xs) ys there = elim (cases_Bool (x == a)) [ inl is ↦ rw is | inr other ↦ rw other (has_after a xs ys there) ]
 
 -- what stands in front makes the different ones no fewer
 no_fewer : (xs ys : List ℕ) → count_distinct ys ≤ count_distinct (xs ++ ys)
@@ -44,7 +44,7 @@ first_left entries at r d seen within is = ap (λ es. regions_of es ++ seen) (dr
 -- an entry in a region that was seen adds none
 pub seen_already : (address : ℕ) (entries : List Entry) (at r : ℕ) (d : Entry) (seen : List ℕ) → at < length entries → r ≡ region (get_or entries at d).address → has r seen ≡ true → HasSeen address entries at seen → HasSeen address entries (at + 1) seen
 seen_already address entries at r d seen within is there before =
-    let again = has_behind r (regions_of (drop (at + 1) entries)) seen there in
+    let again = has_after r (regions_of (drop (at + 1) entries)) seen there in
     let whole = sym (ap count_distinct (first_left entries at r d seen within is)) ∙ before.same in
     record { same = rw again at whole; different = before.different; few = before.few }
 
@@ -72,7 +72,7 @@ seen_new address entries at r d seen within is new room before = record {
 
 -- a region that was seen last is one of them
 pub seen_last : (a : ℕ) (seen : List ℕ) → has a (seen ++ a ∷ []) ≡ true
-seen_last a seen = has_behind a seen (a ∷ []) (let here : (a == a) ≡ true = grind (arith, nat_tests) in rw here refl)
+seen_last a seen = has_after a seen (a ∷ []) (let here : (a == a) ≡ true = grind (arith, nat_tests) in rw here refl)
 
 -- a fifth region beside four that were seen
 pub seen_fifth : (address : ℕ) (entries : List Entry) (at r : ℕ) (d : Entry) (seen : List ℕ) → at < length entries → r ≡ region (get_or entries at d).address → has r seen ≡ false → length seen ≡ 4 → HasSeen address entries at seen → nat_lt 4 (count_distinct (region address ∷ regions_of entries)) ≡ true

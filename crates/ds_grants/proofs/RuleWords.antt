@@ -14,15 +14,18 @@ use Rattle.ds_policy.specs.Grants.{region, count_distinct}
 use Rattle.ds_policy.specs.PolicyParts as rules
 use Rattle.ds_policy.specs.PolicyFacts.{IsGoodRule, HasFewRegions}
 use Rattle.ds_policy.specs.FirstTable.{granted_by, with_rule, with_rules}
-use Rattle.ds_tables.specs.Places.{Places, region_of, holds, places_of, place_of, has_place, opened}
-use Rattle.ds_tables.specs.Tables as tables
+use Rattle.ds_tables.specs.Places.{Places, region_of, holds, places_of, region_place}
+use Rattle.ds_tables.specs.Inner.Places.{has_place, opened}
+use Rattle.ds_tables.specs.Inner.Tables as tables
 use Rattle.ds_tables.specs.Tables.{HasEmptyTable}
 use Rattle.ds_tables.proofs.PlaceLemmas.{places_at, four_places, none_placed}
 use Rattle.ds_tables.proofs.Map.{frames_kept, none_words}
-use Rattle.ds_grants.specs.State.{GrantsState, place_of_page}
-use Rattle.ds_grants.specs.First.{no_grants, first_place}
+use Rattle.ds_grants.specs.State.{GrantsState}
+use Rattle.ds_grants.specs.Inner.State.{place_of_page}
+use Rattle.ds_grants.specs.Inner.First.{no_grants, first_place}
 use Rattle.ds_grants.specs.Words.{word_of_grant, regions_taken, WordsHold}
-use Rattle.ds_grants.specs.Represented.{HasWords, HasRegion}
+use Rattle.ds_grants.specs.Represented.{TablesHaveWords}
+use Rattle.ds_grants.specs.Inner.Represented.{HasRegion}
 use Rattle.ds_grants.proofs.FifthRegion.{has, subset, regions_of, fifth_by_places}
 use Rattle.ds_grants.proofs.Puts.{put_holds, same_word}
 use Rattle.ds_grants.proofs.Kept.{opened_places, few_pages, word_small}
@@ -43,8 +46,8 @@ frames_over None low = tt
 frames_over (Some q) low = subst (λ (n : ℕ). n < 1024) (sym (lies_over q low)) low
 
 -- one word more
-written : (memory : List ℕ) (t : Places) (table : Table) (p a : ℕ) (grant : Grant) → HasWords memory t (over table) → 2 ^ 23 ≤ length memory → 0 < p → p ≤ length table → a % 4096 ≡ 0 → IfSome grant.page (λ q. q < 1024) → HasRegion (over table) p a
-    → HasWords (tables.with_entry memory t p a (word_of_grant (over []) (Some grant))) (opened t p (region_of a)) (over (with_entry table p a grant))
+written : (memory : List ℕ) (t : Places) (table : Table) (p a : ℕ) (grant : Grant) → TablesHaveWords memory t (over table) → 2 ^ 23 ≤ length memory → 0 < p → p ≤ length table → a % 4096 ≡ 0 → IfSome grant.page (λ q. q < 1024) → HasRegion (over table) p a
+    → TablesHaveWords (tables.with_entry memory t p a (word_of_grant (over []) (Some grant))) (opened t p (region_of a)) (over (with_entry table p a grant))
 written memory t table p a grant k long low high page small region-free =
     let w : word_of_grant (over []) (Some grant) ≡ word_of_grant (over table) (Some grant) = same_word (over table) [] [] (Some grant) in
     let high_places : p ≤ length t = subst (λ (n : ℕ). p ≤ n) (sym k.words.same) high in
@@ -205,21 +208,21 @@ as_long t n [] = refl
 as_long t n (r ∷ rs) = as_long (with_rule t n r) (n + 1) rs ∙ length-set t (r.process - 1) (put (entries_of t r.process) r.address (granted_by n r))
 
 pub rule_written : (processes i : ℕ) (rs : List PolicyRule) (d : PolicyRule) (memory : List ℕ) (t : Places) → i < length rs → All (IsGoodRule processes 1024) rs → HasFewRegions rs → 2 ^ 23 ≤ length memory
-    → HasWords memory t (over (with_rules (replicate processes []) 1 (take i rs)))
-    → HasWords (tables.with_entry memory t (get_or rs i d).process (get_or rs i d).address (word_of_grant (over []) (Some (granted_by 0 (get_or rs i d))))) (opened t (get_or rs i d).process (region_of (get_or rs i d).address)) (over (with_rules (replicate processes []) 1 (take (i + 1) rs)))
+    → TablesHaveWords memory t (over (with_rules (replicate processes []) 1 (take i rs)))
+    → TablesHaveWords (tables.with_entry memory t (get_or rs i d).process (get_or rs i d).address (word_of_grant (over []) (Some (granted_by 0 (get_or rs i d))))) (opened t (get_or rs i d).process (region_of (get_or rs i d).address)) (over (with_rules (replicate processes []) 1 (take (i + 1) rs)))
 rule_written processes i rs d memory t within good few long k =
     let r : PolicyRule = get_or rs i d in
     let it = good i d within in
     let p = it.process in
     let before : Table = with_rules (replicate processes []) 1 (take i rs) in
     let rows : length (with_rules (replicate processes []) 1 (take i rs)) ≡ processes = as_long (replicate processes []) 1 (take i rs) ∙ length-replicate processes [] in
-    subst (λ (table : Table). HasWords (tables.with_entry memory t r.process r.address (word_of_grant (over []) (Some (granted_by 0 r)))) (opened t r.process (region_of r.address)) (over table))
+    subst (λ (table : Table). TablesHaveWords (tables.with_entry memory t r.process r.address (word_of_grant (over []) (Some (granted_by 0 r)))) (opened t r.process (region_of r.address)) (over table))
     (sym (ap (with_rules (replicate processes []) 1) (take_more rs i d within) ∙ one_more (replicate processes []) 1 (take i rs) r 0))
     (written memory t before r.process r.address (granted_by (1 + length (take i rs)) r) k long (omega (arith, p)) (omega (arith, p, rows)) it.aligned it.page (region_for processes i rs d within good few))
 
 -- Before any rule.
-pub nothing_written : (processes places : ℕ) (memory : List ℕ) → places ≡ processes → processes ≤ 100 → HasEmptyTable memory → HasWords memory (replicate places (replicate 4 None)) (over (replicate processes []))
-nothing_written processes places memory same few empty = subst (λ (n : ℕ). HasWords memory (replicate n (replicate 4 None)) (over (replicate processes []))) (sym same) (record {
+pub nothing_written : (processes places : ℕ) (memory : List ℕ) → places ≡ processes → processes ≤ 100 → HasEmptyTable memory → TablesHaveWords memory (replicate places (replicate 4 None)) (over (replicate processes []))
+nothing_written processes places memory same few empty = subst (λ (n : ℕ). TablesHaveWords memory (replicate n (replicate 4 None)) (over (replicate processes []))) (sym same) (record {
   words = record {
     words = λ p vpn live user. none_words memory processes p (vpn * 2 ^ 12) empty ∙ sym (ap (λ (es : List Entry). word_of_grant (over (replicate processes [])) (found es (vpn * 2 ^ 12))) (empty_row processes p));
     regions = λ p r live. no_place processes p r ∙ sym (ap (list_any (λ (e : Entry). region_of e.address == r)) (empty_row processes p));
@@ -243,7 +246,7 @@ nothing_written processes places memory same few empty = subst (λ (n : ℕ). Ha
       | inr none ↦ inr (places_at (replicate n (replicate 4 None)) (suc p) (omega arith) ∙ none)
     ]
 
-    no_place : (n p r : ℕ) → is_some (place_of (replicate n (replicate 4 None)) p r) ≡ false
+    no_place : (n p r : ℕ) → is_some (region_place (replicate n (replicate 4 None)) p r) ≡ false
     no_place n p r = elim (places_by n p) [
       | inl four ↦ ap (λ (ps : List (Option ℕ)). is_some (position (holds r) ps)) four
       | inr none ↦ ap (λ (ps : List (Option ℕ)). is_some (position (holds r) ps)) none
@@ -255,8 +258,8 @@ nothing_written processes places memory same few empty = subst (λ (n : ℕ). Ha
       | inr none ↦ subst (λ (ps : List (Option ℕ)). count_distinct (regions_taken ps) ≡ length (regions_taken ps)) (sym none) refl
     ]
 
-pub written_as : {memory n : List ℕ} {t u : Places} {table : Table} → n ≡ memory → u ≡ t → HasWords memory t (over table) → HasWords n u (over table)
-written_as {memory} {n} {t} {u} {table} e f k = subst (λ (m : List ℕ). HasWords m u (over table)) (sym e) (subst (λ (v : Places). HasWords memory v (over table)) (sym f) k)
+pub written_as : {memory n : List ℕ} {t u : Places} {table : Table} → n ≡ memory → u ≡ t → TablesHaveWords memory t (over table) → TablesHaveWords n u (over table)
+written_as {memory} {n} {t} {u} {table} e f k = subst (λ (m : List ℕ). TablesHaveWords m u (over table)) (sym e) (subst (λ (v : Places). TablesHaveWords memory v (over table)) (sym f) k)
 
 -- rules over fewer pages are rules over more
 pub more_pages : (processes pages : ℕ) (rs : List PolicyRule) → pages ≤ 1024 → All (IsGoodRule processes pages) rs → All (IsGoodRule processes 1024) rs

@@ -8,7 +8,7 @@ use Rattle.std.proofs.lemmas.List.Elements.{All-nil, All-cons, All-append, All-g
 use Rattle.std.proofs.lemmas.List.Quantifiers.{all_pairs_push}
 use Rattle.std.proofs.lemmas.List.Sums.{position_or_len_is}
 use Rattle.ds_grants.specs.declared.origins.Origin.{Origin}
-use Rattle.ds_grants.specs.Origins.{slot_of, AreSeen, AreApart}
+use Rattle.ds_grants.specs.Inner.Origins.{slot_of, AreSeen, AreApart}
 use Rattle.ds_grants.proofs.FifthRegion.{same_number, itself}
 use Rattle.ds_grants.proofs.Known.{is_at, none_at_place}
 

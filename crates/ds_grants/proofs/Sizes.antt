@@ -11,12 +11,14 @@ use Rattle.ds_policy.specs.declared.grant.Grant.{Grant}
 use Rattle.ds_policy.specs.Pages.{Table, names, found, put, entries_of, entry_at, with_entry, erased_entry}
 use Rattle.ds_policy.specs.Families.{parent_of, without_entry, without_entries}
 use Rattle.ds_policy.specs.Grants.{is_some_right, has_right}
-use Rattle.ds_grants.specs.State.{GrantsState, LayoutState, with_grant, erased_grant}
-use Rattle.ds_grants.specs.Sound.{AreCounted, IsWhole, IsAtPage, has_same_address, IsGoodRow, AreLaidOut, IsSound}
-use Rattle.ds_grants.specs.Parents.{AreAlike}
-use Rattle.ds_grants.specs.Copies.{IsMarked}
-use Rattle.ds_grants.specs.Order.{is_no_page}
-use Rattle.ds_grants.specs.Counts.{one_if_named, page_of, holders_in, AreOneMore, AreOneFewer}
+use Rattle.ds_grants.specs.State.{GrantsState}
+use Rattle.ds_grants.specs.Inner.State.{LayoutState, with_grant, erased_grant}
+use Rattle.ds_grants.specs.Sound.{AreLaidOut}
+use Rattle.ds_grants.specs.Inner.Sound.{AreCounted, IsWhole, IsAtPage, has_same_address, IsGoodRow, IsSound}
+use Rattle.ds_grants.specs.Inner.Parents.{AreAlike}
+use Rattle.ds_grants.specs.Inner.Copies.{IsMarked}
+use Rattle.ds_grants.specs.Inner.Order.{is_no_page}
+use Rattle.ds_grants.specs.Inner.Counts.{one_if_named, page_of, holders_in, AreOneMore, AreOneFewer}
 use Rattle.ds_grants.proofs.FifthRegion.{either, same_number}
 use Rattle.ds_grants.proofs.HolderCounts.{holders_at, put_counts, erase_counts, end_counts, holders_erased, holders_fewer, itself, found_holds, row_holders, counted_within}
 use Rattle.ds_grants.proofs.Living.{one_named, found_lives}
@@ -24,7 +26,7 @@ use Rattle.ds_grants.proofs.Laying.{live_below, live_marked, laid_fewer, live_fe
 use Rattle.ds_grants.proofs.Bare.{handed_alike}
 use Rattle.ds_grants.proofs.Parents.{alike_counted, alike_sound, alike_laid, alike_rows}
 use Rattle.ds_grants.proofs.Emptying.{end_alike}
-use Rattle.ds_grants.specs.Free.{HasPage}
+use Rattle.ds_grants.specs.Inner.Free.{HasPage}
 
 -- an entry in the place of another leaves as many, and one at the end has room
 put_length : (es : List Entry) (a : ℕ) (g : Grant) (before : ℕ) → before + length es ≤ 256 → (IsNone (found es a) → before + length es < 256) → before + length (put es a g) ≤ 256

@@ -7,7 +7,7 @@ use Rattle.std.proofs.lemmas.List.Elements.{All-take, All-set, All-get_or}
 use Rattle.std.proofs.lemmas.List.Quantifiers.{position-Some}
 use Rattle.ds_policy.proofs.Rows.{other_default}
 use Rattle.ds_grants.specs.declared.origins.Origin.{Origin}
-use Rattle.ds_grants.specs.Origins.{of_others, receivers_in, slot_of, AreSeen, AreApart}
+use Rattle.ds_grants.specs.Inner.Origins.{of_others, receivers_in, slot_of, AreSeen, AreApart}
 use Rattle.ds_grants.proofs.FifthRegion.{same_number}
 use Rattle.ds_grants.proofs.Known.{is_at, known_at, unknown_at, none_at_place}
 use Rattle.ds_grants.proofs.Seen.{known_there}

@@ -7,7 +7,8 @@ use Rattle.std.proofs.lemmas.Option.{slice_get-get_or, slice_get_within, get_or_
 use Rattle.std.proofs.lemmas.List.{get_or-set_same, get_or-set_other}
 use Rattle.ds_tlb.specs.declared.entry.Entry.{Entry}
 use Rattle.ds_tlb.specs.Entries.{matches, find}
-use Rattle.ds_tlb.specs.Singles.{match_each_other, IsSingle, IsOnlyMatch}
+use Rattle.ds_tlb.specs.Singles.{match_each_other, IsSingle}
+use Rattle.ds_tlb.specs.Inner.Singles.{IsOnlyMatch}
 use Rattle.ds_tlb.proofs.Matches.{only_match, missed_match}
 
 -- what a list holds at a place after one place was set: the new value there, or what stood

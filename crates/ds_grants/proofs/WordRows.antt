@@ -6,14 +6,16 @@ use Rattle.std.proofs.lemmas.Map.Keys.{IsDistinct-head}
 use Rattle.ds_tlb.specs.declared.entry.Entry.{Entry}
 use Rattle.ds_mem.specs.Memory.{frame_of}
 use Rattle.ds_policy.specs.declared.grant.Right.TheVariants.{Nothing, Read}
-use Rattle.ds_grants.specs.State.{GrantsState, with_grant}
+use Rattle.ds_grants.specs.State.{GrantsState}
+use Rattle.ds_grants.specs.Inner.State.{with_grant}
 use Rattle.ds_tables.specs.Places.{Places}
 use Rattle.ds_tables.specs.Tables.{entry_word}
 use Rattle.ds_grants.specs.Words.{granted_word, WordsHold}
 use Rattle.ds_grants.specs.Buffer.{IsMapped}
 use Rattle.ds_grants.specs.Copies.{HasKeys}
-use Rattle.ds_grants.specs.Represented.{IsLow, IsHigh, HasRegion}
-use Rattle.ds_grants.specs.Sound.{IsAtPage, has_same_address, IsGoodRow, AreLaidOut}
+use Rattle.ds_grants.specs.Inner.Represented.{IsLow, IsHigh, HasRegion}
+use Rattle.ds_grants.specs.Sound.{AreLaidOut}
+use Rattle.ds_grants.specs.Inner.Sound.{IsAtPage, has_same_address, IsGoodRow}
 use Rattle.ds_grants.specs.Rows.{grant, entry, grants}
 
 pub the_last_users_page_has_its_word : (memory : List ℕ) (t : Places) (g : GrantsState) → WordsHold memory t g → entry_word memory t 1 (0x7FFFF * 2 ^ 12) ≡ granted_word g 1 0x7FFFF

@@ -7,12 +7,14 @@ use Rattle.std.proofs.lemmas.Bool.Decides.{nat_tests}
 use Rattle.ds_word.specs.Bytes as bytes
 use Rattle.ds_word.proofs.Bytes.{length-with_word, long-with_word}
 use Rattle.ds_mem.proofs.Words.{frame_of-with_word_apart}
-use Rattle.ds_tables.specs.Places.{Places, ArePlaces, region_of, place_of, free_place, has_place, opened, page_of_table, frame_of_place, table_frame}
-use Rattle.ds_tables.specs.Tables.{HasEmptyTable, entry_word, with_entry, with_entry_word, word_place}
+use Rattle.ds_tables.specs.Places.{Places, ArePlaces, region_of, region_place, page_of_table, frame_of_place, table_frame}
+use Rattle.ds_tables.specs.Inner.Places.{free_place, has_place, opened}
+use Rattle.ds_tables.specs.Tables.{HasEmptyTable, entry_word, table_word_place}
+use Rattle.ds_tables.specs.Inner.Tables.{with_entry, with_entry_word}
 use Rattle.ds_tables.proofs.PlaceLemmas.{is_place}
 use Rattle.ds_tables.proofs.Map.{put_words, opened_old, table_old, put_entry_there}
-use Rattle.ds_grants.specs.Represented.{IsLow}
-use Rattle.ds_grants.specs.Rewords.{with_word}
+use Rattle.ds_grants.specs.Inner.Represented.{IsLow}
+use Rattle.ds_grants.specs.Inner.Rewords.{with_word}
 
 -- the word of each page of each process
 abbrev pub Words : Type 0
@@ -38,7 +40,7 @@ pub record IsKey (t : Places) (new : Words) (key : Key) : Type 0 where
   pub live : 0 < key.process
   pub page : key.address % 2 ^ 12 ≡ 0
   pub user : key.address < 2 ^ 31
-  pub table : is_some (place_of t key.process (region_of key.address)) ≡ true
+  pub table : is_some (region_place t key.process (region_of key.address)) ≡ true
   pub small : new key.process (key.address / 2 ^ 12) < 2 ^ 32
 
 pub first_of : {A : Type 0} (P : A → Type 0) (x : A) (xs : List A) → All P (x ∷ xs) → P x
@@ -67,29 +69,29 @@ above : (p i : ℕ) → nat_lt 1 (table_frame p i) ≡ true
 above p i = grind (arith, nat_tests)
 
 -- what a table's word changes is in a frame of tables
-low_written : (memory : List ℕ) (frame a w : ℕ) → 2 ≤ frame → frame < 402 → 2 ^ 23 ≤ length memory → IsLow memory (bytes.with_word memory (word_place frame a) w)
+low_written : (memory : List ℕ) (frame a w : ℕ) → 2 ≤ frame → frame < 402 → 2 ^ 23 ≤ length memory → IsLow memory (bytes.with_word memory (table_word_place frame a) w)
 low_written memory frame a w least most long =
-    let x : ℕ = word_place frame a in
+    let x : ℕ = table_word_place frame a in
     let inside : x - x % 4 + 4 ≤ length memory = omega (arith, most, long) in
     (length-with_word memory x w inside, λ f apart. frame_of-with_word_apart memory x w f inside (elim apart [ inl low ↦ inl (omega (arith, low, least)) | inr high ↦ inr (omega (arith, high, most)) ]))
 
 -- the same of a word that was put there
-pub low_put_word : (memory new : List ℕ) (frame a w : ℕ) → 1 < frame → frame < 402 → new ≡ bytes.with_word memory (word_place frame a) w → length new ≡ 2 ^ 23 → IsLow memory new
+pub low_put_word : (memory new : List ℕ) (frame a w : ℕ) → 1 < frame → frame < 402 → new ≡ bytes.with_word memory (table_word_place frame a) w → length new ≡ 2 ^ 23 → IsLow memory new
 low_put_word memory new frame a w least most is size =
-    let x : ℕ = word_place frame a in
+    let x : ℕ = table_word_place frame a in
     let long = long-with_word memory x (2 ^ 23) w (omega (arith, most)) (subst (λ (n : ℕ). 2 ^ 23 ≤ n) (ap length is) (omega (arith, size))) in
     subst (IsLow memory) (sym is) (low_written memory frame a w (omega (arith, least)) most long)
 
-low_by : (memory : List ℕ) (t : Places) (p a w : ℕ) (o : Option ℕ) → ArePlaces t → 2 ^ 23 ≤ length memory → place_of t p (region_of a) ≡ o → IsLow memory (cond (nat_lt 1 (frame_of_place p o)) (bytes.with_word memory (word_place (frame_of_place p o) a) w) memory)
+low_by : (memory : List ℕ) (t : Places) (p a w : ℕ) (o : Option ℕ) → ArePlaces t → 2 ^ 23 ≤ length memory → region_place t p (region_of a) ≡ o → IsLow memory (cond (nat_lt 1 (frame_of_place p o)) (bytes.with_word memory (table_word_place (frame_of_place p o) a) w) memory)
 low_by memory t p a w None are long at = (refl, λ f apart. refl)
 low_by memory t p a w (Some i) are long at =
     let here = is_place t p (region_of a) i are at in
     let low = here.low in let few = here.few in let within = here.within in
-    subst (λ (b : Bool). IsLow memory (cond b (bytes.with_word memory (word_place (table_frame p i) a) w) memory)) (sym (above p i))
+    subst (λ (b : Bool). IsLow memory (cond b (bytes.with_word memory (table_word_place (table_frame p i) a) w) memory)) (sym (above p i))
     (low_written memory (table_frame p i) a w (omega arith) (omega (arith, few, within)) long)
 
 pub low_word : (memory : List ℕ) (t : Places) (p a w : ℕ) → ArePlaces t → 2 ^ 23 ≤ length memory → IsLow memory (with_word memory t p a w)
-low_word memory t p a w are long = low_by memory t p a w (place_of t p (region_of a)) are long refl
+low_word memory t p a w are long = low_by memory t p a w (region_place t p (region_of a)) are long refl
 
 -- one word is written
 module _ (memory : List ℕ) (t : Places) (new : Words) (key : Key) (are : ArePlaces t) (size : 2 ^ 23 ≤ length memory) (empty : HasEmptyTable memory) (k : IsKey t new key) where
@@ -99,8 +101,8 @@ module _ (memory : List ℕ) (t : Places) (new : Words) (key : Key) (are : ArePl
   abbrev after : List ℕ
   after = with_word memory t key.process key.address w
 
-  stands : (i : ℕ) × (place_of t key.process (region_of key.address) ≡ Some i)
-  stands = some_is (place_of t key.process (region_of key.address)) k.table
+  stands : (i : ℕ) × (region_place t key.process (region_of key.address) ≡ Some i)
+  stands = some_is (region_place t key.process (region_of key.address)) k.table
 
   room : has_place t key.process (region_of key.address) ≡ true
   room = ap (λ (b : Bool). b || is_some (free_place t key.process)) k.table

@@ -1,12 +1,12 @@
 -- What a translation lookaside buffer may hold: what page tables have of what is granted.
-use Rattle.std.specs.Prelude.{◌≡◌, ◌⊎◌, ℕ, ◌+◌, ◌-◌, ◌*◌, ◌^◌, ◌<◌, ◌≤◌, false, nat_lt, if◌then◌else◌, List, length, slice_get, slice_set, Some, unwrap_or}
+use Rattle.std.specs.Prelude.{◌≡◌, ◌⊎◌, ℕ, ◌+◌, ◌-◌, ◌*◌, ◌^◌, ◌<◌, ◌≤◌, false, nat_lt, if◌then◌else◌, List, length, slice_get, Some}
 use Rattle.ds_tlb.specs.declared.entry.Entry.{Entry}
-use Rattle.ds_tlb.specs.Entries.{find, empty_entry}
+use Rattle.ds_tlb.specs.Entries.{empty_entry}
 use Rattle.ds_tlb.specs.Singles.{IsSingle}
 use Rattle.ds_tlb.specs.Words.{entry_of}
 use Rattle.ds_grants.specs.State.{GrantsState}
 use Rattle.ds_tables.specs.Places.{Places, page_of_table}
-use Rattle.ds_asid.specs.Spaces.{Spaces, number_of}
+use Rattle.ds_asid.specs.Spaces.{Spaces, space_number}
 use Rattle.ds_grants.specs.Words.{granted_word}
 
 -- EntryHi of a page in an address space
@@ -45,15 +45,6 @@ pub record BufferHolds (entries : List Entry) (s : Spaces) (g : GrantsState) (t 
   -- no entry answers in each address space
   pub own : (slot : ℕ) (e : Entry) → slice_get entries slot ≡ Some e → e.g ≡ false
   pub backed : (slot : ℕ) (e : Entry) (p : ℕ) → slice_get entries slot ≡ Some e
-      → 0 < p → 0 < e.asid → number_of s p ≡ e.asid → IsBacked g t p e
+      → 0 < p → 0 < e.asid → space_number s p ≡ e.asid → IsBacked g t p e
   pub used : (slot : ℕ) (e : Entry) → slice_get entries slot ≡ Some e
       → 0 < e.asid → e.asid < s.next
-
--- the entry that maps a page of a process in an address space
-abbrev pub entry_for : GrantsState → Places → ℕ → ℕ → ℕ → Entry
-entry_for g t p asid vpn = entry_of (hi_of vpn asid) (lo_of g t p vpn)
-
--- with this entry in the place of what an address space has for its page, or in this slot where it
--- has nothing
-abbrev pub filled : List Entry → ℕ → ℕ → ℕ → Entry → List Entry
-filled entries vpn asid slot e = slice_set entries (unwrap_or (find entries vpn asid) slot) e

@@ -9,17 +9,18 @@ use Rattle.ds_policy.specs.declared.grant.Right.{Right}
 use Rattle.ds_policy.specs.declared.grant.Right.TheVariants.{Nothing, Read, Write}
 use Rattle.ds_policy.specs.Pages.{Table}
 use Rattle.ds_policy.specs.Families.{with_parent}
-use Rattle.ds_grants.specs.State.{GrantsState, erased_grant, without_grant}
-use Rattle.ds_grants.specs.Parents.{AreAlike}
-use Rattle.ds_grants.specs.First.{no_grants}
-use Rattle.ds_grants.specs.Copies.{with_copy, with_own_frame}
-use Rattle.ds_grants.specs.Frames.{total}
+use Rattle.ds_grants.specs.State.{GrantsState}
+use Rattle.ds_grants.specs.Inner.State.{erased_grant, without_grant}
+use Rattle.ds_grants.specs.Inner.Parents.{AreAlike}
+use Rattle.ds_grants.specs.Inner.First.{no_grants}
+use Rattle.ds_grants.specs.Inner.Copies.{with_copy, with_own_frame}
+use Rattle.ds_grants.specs.Inner.Frames.{total}
 use Rattle.ds_tables.specs.Places.{Places}
-use Rattle.ds_tables.specs.Tables.{with_entry}
+use Rattle.ds_tables.specs.Inner.Tables.{with_entry}
 use Rattle.ds_grants.specs.Words.{word_of_right, granted_word, regions_taken}
 use Rattle.ds_grants.specs.Buffer.{hi_of, lo_of}
-use Rattle.ds_grants.specs.Changes.{is_used, memory_without, places_without, both_forgotten, family_places, all_forgotten}
-use Rattle.ds_grants.specs.Represented.{HasRegion}
+use Rattle.ds_grants.specs.Inner.Changes.{is_used, memory_without, places_without, both_forgotten, family_places, all_forgotten}
+use Rattle.ds_grants.specs.Inner.Represented.{HasRegion}
 
 -- a grant of a page by rule 1
 abbrev pub grant : Right → Option ℕ → Grant

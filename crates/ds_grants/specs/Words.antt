@@ -8,7 +8,7 @@ use Rattle.ds_policy.specs.declared.grant.Right.{Right}
 use Rattle.ds_policy.specs.Pages.{entry_at, entries_of}
 use Rattle.ds_policy.specs.Grants.{is_some_right, is_write, count_distinct}
 use Rattle.ds_grants.specs.State.{GrantsState, frame_of_page, is_shared}
-use Rattle.ds_tables.specs.Places.{Places, region_of, places_of, place_of}
+use Rattle.ds_tables.specs.Places.{Places, region_of, places_of, region_place}
 use Rattle.ds_tables.specs.Tables.{entry_word}
 
 -- EntryLo of a page for a right: its frame, valid, and dirty where the page may be written and no
@@ -42,7 +42,7 @@ pub record WordsHold (memory : List ℕ) (t : Places) (g : GrantsState) : Type 0
   pub words : (p vpn : ℕ) → 0 < p → vpn < 2 ^ 19
       → entry_word memory t p (vpn * 2 ^ 12) ≡ granted_word g p vpn
   -- a region has a table exactly where an entry of the process lies in it
-  pub regions : (p r : ℕ) → 0 < p → is_some (place_of t p r)
+  pub regions : (p r : ℕ) → 0 < p → is_some (region_place t p r)
       ≡ list_any (λ (e : granted.Entry). region_of e.address == r) (entries_of g.table p)
   -- no region has two tables
   pub distinct : (p : ℕ) → count_distinct (regions_taken (places_of t p))

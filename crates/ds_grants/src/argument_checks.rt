@@ -3,12 +3,13 @@ ghost use Rattle.std.specs.Prelude.{◌≡◌, ℕ, ◌<◌, ◌≤◌, Bool, tr
 ghost use Rattle.ds_policy.specs.declared.grant.Right.{Right};
 ghost use Rattle.ds_policy.specs.Pages.{entries_of, entry_at, count_live};
 ghost use Rattle.ds_policy.specs.Grants.{PageState, ◌or_else◌, refused, has_right, is_some_right, not_page, no_right, table_full, fifth_region, may_not_give, given, granted, removed, give, grant, drop_own, drop_by_command};
-ghost use Rattle.ds_grants.specs.State.{number_of, is_live, lives_in, pages_in, page_state};
-ghost use Rattle.ds_grants.specs.Copies.{IsMarked};
-ghost use Rattle.ds_grants.specs.Counts.{page_of};
-ghost use Rattle.ds_grants.specs.Free.{HasPage, IsFirstFree};
-ghost use Rattle.ds_grants.specs.Order.{is_no_page};
-ghost use Rattle.ds_grants.specs.Represented.{HasRegion};
+ghost use Rattle.ds_grants.specs.State.{is_live, pages_in, page_state};
+ghost use Rattle.ds_grants.specs.Inner.State.{grant_fault_number, lives_in};
+ghost use Rattle.ds_grants.specs.Inner.Copies.{IsMarked};
+ghost use Rattle.ds_grants.specs.Inner.Counts.{page_of};
+ghost use Rattle.ds_grants.specs.Inner.Free.{HasPage, IsFirstFree};
+ghost use Rattle.ds_grants.specs.Inner.Order.{is_no_page};
+ghost use Rattle.ds_grants.specs.Inner.Represented.{HasRegion};
 
 use crate::fault::GrantFault;
 use crate::grants::Grants;
@@ -58,7 +59,7 @@ impl Grants {
         requires high { process ≤ length self.now.table }
         ensures err { IfErr result (λ r. (memory : List ℕ) (next : Result PageState ℕ)
             → (not_page addr or_else no_right (page_state self.now memory) process addr
-            or_else next) ≡ Err (number_of r)) }
+            or_else next) ≡ Err (grant_fault_number r)) }
         ensures ok { OnOk result ((memory : List ℕ) (next : Result PageState ℕ)
             → (not_page addr or_else no_right (page_state self.now memory) process addr
             or_else next) ≡ next) }
@@ -87,7 +88,7 @@ impl Grants {
         ensures err { IfErr result (λ r. (memory : List ℕ) (next : Result PageState ℕ)
             → (refused 12 (not (lives_in self.now process)) or_else not_page addr
             or_else no_right (page_state self.now memory) process addr or_else next)
-            ≡ Err (number_of r)) }
+            ≡ Err (grant_fault_number r)) }
         ensures ok { OnOk result ((memory : List ℕ) (next : Result PageState ℕ)
             → (refused 12 (not (lives_in self.now process)) or_else not_page addr
             or_else no_right (page_state self.now memory) process addr or_else next) ≡ next) }
@@ -113,7 +114,7 @@ impl Grants {
     ) -> Result<(), GrantFault>
         ensures err { IfErr result (λ r. (memory : List ℕ)
             → drop_by_command (lives_in self.now) (page_state self.now memory) process addr
-            ≡ Err (number_of r)) }
+            ≡ Err (grant_fault_number r)) }
         ensures ok { OnOk result ((memory : List ℕ)
             → drop_by_command (lives_in self.now) (page_state self.now memory) process addr
             ≡ Ok (removed (page_state self.now memory) process addr)) }
@@ -146,7 +147,7 @@ impl Grants {
         ensures err { IfErr result (λ r. (memory : List ℕ)
             → (if by_command
             then drop_by_command (lives_in self.now) (page_state self.now memory) process addr
-            else drop_own (page_state self.now memory) process addr) ≡ Err (number_of r)) }
+            else drop_own (page_state self.now memory) process addr) ≡ Err (grant_fault_number r)) }
         ensures ok { OnOk result ((memory : List ℕ)
             → (if by_command
             then drop_by_command (lives_in self.now) (page_state self.now memory) process addr
@@ -171,7 +172,7 @@ impl Grants {
         ensures err { IfErr result (λ r. (memory : List ℕ) (next : Result PageState ℕ)
             → (table_full (page_state self.now memory) process addr
             or_else fifth_region (page_state self.now memory) process addr or_else next)
-            ≡ Err (number_of r)) }
+            ≡ Err (grant_fault_number r)) }
         ensures ok { OnOk result ((memory : List ℕ) (next : Result PageState ℕ)
             → (table_full (page_state self.now memory) process addr
             or_else fifth_region (page_state self.now memory) process addr or_else next) ≡ next) }
@@ -195,7 +196,7 @@ impl Grants {
             (λ r. (memory : List ℕ) (page : ℕ) (right : Right) (may_give : Bool) (rule : ℕ)
             → grant (lives_in self.now)
             (page_state self.now memory) process addr page right may_give rule
-            ≡ Err (number_of r)) }
+            ≡ Err (grant_fault_number r)) }
         ensures ok { OnOk result
             ((memory : List ℕ) (page : ℕ) (right : Right) (may_give : Bool) (rule : ℕ)
             → grant (lives_in self.now)
@@ -255,7 +256,7 @@ impl Grants {
         requires high { caller ≤ length self.now.table }
         ensures err { IfErr result (λ r. (memory : List ℕ)
             → give (lives_in self.now) (page_state self.now memory) caller addr receiver to mode
-            ≡ Err (number_of r)) }
+            ≡ Err (grant_fault_number r)) }
         ensures ok { IfOk result (λ g. (memory : List ℕ)
             → give (lives_in self.now) (page_state self.now memory) caller addr receiver to mode
             ≡ Ok (given (page_state self.now memory) caller addr g receiver to mode)) }

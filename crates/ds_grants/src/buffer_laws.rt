@@ -5,10 +5,12 @@ ghost use Rattle.ds_tlb.specs.declared.entry.Entry.{Entry};
 ghost use Rattle.ds_tlb.specs.Entries.{find, empty_entries};
 ghost use Rattle.ds_grants.specs.State.{GrantsState};
 ghost use Rattle.ds_tables.specs.Places.{Places};
-ghost use Rattle.ds_asid.specs.Spaces.{Spaces, AreApart, number_of, number_held};
-ghost use Rattle.ds_grants.specs.Buffer.{IsMapped, BufferHolds, entry_for, filled};
+ghost use Rattle.ds_asid.specs.Spaces.{Spaces, AreApart, space_number};
+ghost use Rattle.ds_asid.specs.Inner.Spaces.{number_held};
+ghost use Rattle.ds_grants.specs.Buffer.{IsMapped, BufferHolds};
+ghost use Rattle.ds_grants.specs.Inner.Buffer.{entry_for, filled};
 ghost use Rattle.ds_grants.specs.Copies.{HasKeys};
-ghost use Rattle.ds_grants.specs.Changes.{both_forgotten, IsChangedAt};
+ghost use Rattle.ds_grants.specs.Inner.Changes.{both_forgotten, IsChangedAt};
 
 /// At its start and after a flush a buffer of at most 64 slots maps nothing, so it holds whatever is
 /// granted, and whoever has which number.
@@ -22,13 +24,13 @@ pub fn an_empty_buffer_holds()
 pub fn a_filled_buffer_holds()
     ensures holds { (entries : List Entry) (s : Spaces) (g : GrantsState) (t : Places)
         (p vpn slot : ℕ) → AreApart s → BufferHolds entries s g t
-        → 0 < p → 0 < number_of s p → IsMapped vpn
+        → 0 < p → 0 < space_number s p → IsMapped vpn
         → BufferHolds
-        (filled entries vpn (number_of s p) slot (entry_for g t p (number_of s p) vpn)) s g t }
+        (filled entries vpn (space_number s p) slot (entry_for g t p (space_number s p) vpn)) s g t }
     ensures missed { (entries : List Entry) (s : Spaces) (g : GrantsState) (t : Places)
         (p vpn slot : ℕ) → AreApart s → BufferHolds entries s g t
-        → 0 < p → 0 < number_of s p → IsMapped vpn → find entries vpn (number_of s p) ≡ None
-        → BufferHolds (slice_set entries slot (entry_for g t p (number_of s p) vpn)) s g t }
+        → 0 < p → 0 < space_number s p → IsMapped vpn → find entries vpn (space_number s p) ≡ None
+        → BufferHolds (slice_set entries slot (entry_for g t p (space_number s p) vpn)) s g t }
     ensures found { (entries : List Entry) (g : GrantsState) (t : Places) (p vpn asid slot : ℕ)
         → vpn < 2 ^ 20 → asid < 64 → slot < length entries → find entries vpn asid ≡ None
         → find (slice_set entries slot (entry_for g t p asid vpn)) vpn asid ≡ Some slot }

@@ -4,13 +4,14 @@ ghost use Rattle.ds_tlb.specs.declared.entry.Entry.{Entry};
 ghost use Rattle.ds_policy.specs.declared.grant.Right.TheVariants.{Write};
 ghost use Rattle.ds_policy.specs.Pages.{entries_of, entry_at, fresh};
 ghost use Rattle.ds_policy.specs.Grants.{is_some_right, granted, shared_from, copied, give, take, drop_own, drop_by_command};
-ghost use Rattle.ds_grants.specs.State.{Does, IsAsLarge, lives_in, page_state, pages_in};
+ghost use Rattle.ds_grants.specs.State.{page_state, pages_in};
+ghost use Rattle.ds_grants.specs.Inner.State.{DoesCall, IsAsLarge, lives_in};
 ghost use Rattle.ds_grants.specs.Copies.{AreRewritten};
-ghost use Rattle.ds_grants.specs.Free.{HasPage, IsFirstFree};
-ghost use Rattle.ds_grants.specs.Order.{is_no_page};
-ghost use Rattle.ds_asid.specs.Spaces.{number_held};
-ghost use Rattle.ds_grants.specs.Changes.{both_forgotten, family_places, all_forgotten};
-ghost use Rattle.ds_grants.specs.Represented.{IsLow, HasRegion, Keeps};
+ghost use Rattle.ds_grants.specs.Inner.Free.{HasPage, IsFirstFree};
+ghost use Rattle.ds_grants.specs.Inner.Order.{is_no_page};
+ghost use Rattle.ds_asid.specs.Inner.Spaces.{number_held};
+ghost use Rattle.ds_grants.specs.Inner.Changes.{both_forgotten, family_places, all_forgotten};
+ghost use Rattle.ds_grants.specs.Inner.Represented.{IsLow, HasRegion, Keeps};
 
 use crate::fault::GrantFault;
 use crate::grants::Grants;
@@ -40,7 +41,7 @@ impl Grants {
     ) -> Result<(), GrantFault>
         requires low { 0 < caller }
         requires high { caller ≤ length self.old.table }
-        ensures does { Does (page_state self.old memory.old) (page_state self.new memory.new) result
+        ensures does { DoesCall (page_state self.old memory.old) (page_state self.new memory.new) result
             (give (lives_in self.old)
             (page_state self.old memory.old) caller addr receiver to mode) }
         ensures same { IsAsLarge self.old self.new }
@@ -209,7 +210,7 @@ impl Grants {
         spaces: &mut Asids,
         tlb: &mut L,
     ) -> Result<(), GrantFault>
-        ensures does { Does (page_state self.old memory.old) (page_state self.new memory.new) result
+        ensures does { DoesCall (page_state self.old memory.old) (page_state self.new memory.new) result
             (take (lives_in self.old) (page_state self.old memory.old) caller process addr) }
         ensures low { IsLow memory.old memory.new }
         ensures same { IsAsLarge self.old self.new }
@@ -248,7 +249,7 @@ impl Grants {
         tlb: &mut L,
     ) -> Result<(), GrantFault>
         requires process { by_command ≡ false → (0 < process) × (process ≤ length self.old.table) }
-        ensures does { Does (page_state self.old memory.old) (page_state self.new memory.new) result
+        ensures does { DoesCall (page_state self.old memory.old) (page_state self.new memory.new) result
             (if by_command
             then drop_by_command (lives_in self.old) (page_state self.old memory.old) process addr
             else drop_own (page_state self.old memory.old) process addr) }

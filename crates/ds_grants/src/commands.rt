@@ -2,10 +2,11 @@
 ghost use Rattle.std.specs.Prelude.{◌≡◌, ◌<◌, ◌≤◌, ◌-◌, true, length, slice_set, OnErr, OnOk};
 ghost use Rattle.ds_policy.specs.Pages.{entries_of};
 ghost use Rattle.ds_policy.specs.Grants.{is_some_right, grant, narrow, revoke, end_process};
-ghost use Rattle.ds_grants.specs.State.{Does, IsAsLarge, lives_in, page_state};
-ghost use Rattle.ds_asid.specs.Spaces.{number_held, given_up};
-ghost use Rattle.ds_grants.specs.Changes.{both_forgotten, family_places, all_forgotten, all_closed};
-ghost use Rattle.ds_grants.specs.Represented.{IsLow, Keeps};
+ghost use Rattle.ds_grants.specs.State.{page_state};
+ghost use Rattle.ds_grants.specs.Inner.State.{DoesCall, IsAsLarge, lives_in};
+ghost use Rattle.ds_asid.specs.Inner.Spaces.{number_held, given_up};
+ghost use Rattle.ds_grants.specs.Inner.Changes.{both_forgotten, family_places, all_forgotten, all_closed};
+ghost use Rattle.ds_grants.specs.Inner.Represented.{IsLow, Keeps};
 
 use crate::fault::GrantFault;
 use crate::grants::Grants;
@@ -34,7 +35,7 @@ impl Grants {
     ) -> Result<(), GrantFault>
         requires named { page < self.old.named }
         requires right { is_some_right right ≡ true }
-        ensures does { Does (page_state self.old memory.old) (page_state self.new memory.new) result
+        ensures does { DoesCall (page_state self.old memory.old) (page_state self.new memory.new) result
             (grant (lives_in self.old)
             (page_state self.old memory.old) process addr page right give rule) }
         ensures low { IsLow memory.old memory.new }
@@ -75,7 +76,7 @@ impl Grants {
         spaces: &mut Asids,
         tlb: &mut L,
     ) -> Result<(), GrantFault>
-        ensures does { Does (page_state self.old memory.old) (page_state self.new memory.new) result
+        ensures does { DoesCall (page_state self.old memory.old) (page_state self.new memory.new) result
             (narrow (lives_in self.old) (page_state self.old memory.old) process addr) }
         ensures low { IsLow memory.old memory.new }
         ensures same { IsAsLarge self.old self.new }
@@ -113,7 +114,7 @@ impl Grants {
         spaces: &mut Asids,
         tlb: &mut L,
     ) -> Result<(), GrantFault>
-        ensures does { Does (page_state self.old memory.old) (page_state self.new memory.new) result
+        ensures does { DoesCall (page_state self.old memory.old) (page_state self.new memory.new) result
             (revoke (lives_in self.old) (page_state self.old memory.old) process addr rule) }
         ensures low { IsLow memory.old memory.new }
         ensures same { IsAsLarge self.old self.new }

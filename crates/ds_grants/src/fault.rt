@@ -1,6 +1,6 @@
 //! Why a change of what is granted is refused.
 ghost use Rattle.std.specs.Prelude.{◌≡◌};
-ghost use Rattle.ds_grants.specs.State.{number_of};
+ghost use Rattle.ds_grants.specs.Inner.State.{grant_fault_number};
 
 use thiserror::Error;
 
@@ -41,7 +41,7 @@ pub enum GrantFault {
 impl GrantFault {
     /// The refusal's number, from 11 to 19.
     pub fn number(self) -> u32
-        ensures { result ≡ number_of self }
+        ensures { result ≡ grant_fault_number self }
     {
         match self {
             GrantFault::NoProcess => 12,

@@ -1,7 +1,7 @@
 //! What is granted at the beginning of a run.
 ghost use Rattle.std.specs.Prelude.{◌≡◌, ℕ, ◌+◌, ◌<◌, ◌≤◌, ◌⊎◌, false, length, replicate, position, bytes_eq, slice_index_or, map, [], IfSome, IfOk, OnErr, OnOk};
 ghost use Rattle.ds_mem.specs.Memory.{frame_of};
-ghost use Rattle.ds_asm.specs.Images.{part_of};
+ghost use Rattle.ds_asm.specs.Images.{page_of_image};
 ghost use Rattle.ds_policy.specs.PolicyParts.{sources_of};
 ghost use Rattle.ds_pagemap.specs.First.{image_named, source_bytes, first_pages};
 ghost use Rattle.ds_tlb.specs.Entries.{empty_entries};
@@ -9,7 +9,8 @@ ghost use Rattle.ds_tables.specs.Tables.{HasEmptyTable};
 ghost use Rattle.ds_asid.specs.Spaces.{at_start};
 ghost use Rattle.ds_grants.specs.State.{pages_in};
 ghost use Rattle.ds_grants.specs.Represented.{IsRepresented};
-ghost use Rattle.ds_grants.specs.First.{no_grants, first_grants};
+ghost use Rattle.ds_grants.specs.First.{first_grants};
+ghost use Rattle.ds_grants.specs.Inner.First.{no_grants};
 
 use crate::first_tables::first_tables;
 use crate::grants::{Grants, PROCESSES};
@@ -27,7 +28,7 @@ use ds_tlb::Lookaside;
 use std::alloc::Global;
 
 /// Where this name stands among the names.
-fn place_of(names: &[Text<64>], name: &str) -> Option<usize>
+fn place_of_name(names: &[Text<64>], name: &str) -> Option<usize>
     ensures exact { result ≡ position (λ n. bytes_eq n name.now) names.now }
     ensures within { IfSome result (λ place. place < length names.now) }
 {
@@ -39,9 +40,9 @@ fn fill_part(names: &[Text<64>], images: &[Image], source: &Source, page: &mut [
     requires images { length images.now ≡ length names.now }
     requires whole { length page.old ≡ 4096 }
     ensures { page.new
-        ≡ part_of (image_named names.now images.now source.now.name) source.now.part }
+        ≡ page_of_image (image_named names.now images.now source.now.name) source.now.part }
 {
-    match place_of(names, source.name.as_str()) {
+    match place_of_name(names, source.name.as_str()) {
         Some(place) => images[place].page(source.part, page),
         None => page.fill(0),
     }

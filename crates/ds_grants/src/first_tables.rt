@@ -4,12 +4,15 @@ ghost use Rattle.std.specs.List.{All};
 ghost use Rattle.ds_mem.specs.Memory.{frame_of};
 ghost use Rattle.ds_policy.specs.PolicyFacts.{IsGoodRule, HasFewRegions};
 ghost use Rattle.ds_policy.specs.FirstTable.{granted_by, with_rules};
-ghost use Rattle.ds_tables.specs.Places.{region_of, opened};
-ghost use Rattle.ds_tables.specs.Tables.{HasEmptyTable, with_entry};
-ghost use Rattle.ds_grants.specs.State.{GrantsState, place_of_page};
-ghost use Rattle.ds_grants.specs.First.{first_place, AreInOrder};
+ghost use Rattle.ds_tables.specs.Places.{region_of};
+ghost use Rattle.ds_tables.specs.Inner.Places.{opened};
+ghost use Rattle.ds_tables.specs.Tables.{HasEmptyTable};
+ghost use Rattle.ds_tables.specs.Inner.Tables.{with_entry};
+ghost use Rattle.ds_grants.specs.State.{GrantsState};
+ghost use Rattle.ds_grants.specs.Inner.State.{place_of_page};
+ghost use Rattle.ds_grants.specs.Inner.First.{first_place, AreInOrder};
 ghost use Rattle.ds_grants.specs.Words.{word_of_grant};
-ghost use Rattle.ds_grants.specs.Represented.{HasWords};
+ghost use Rattle.ds_grants.specs.Represented.{TablesHaveWords};
 
 use crate::layout::Place;
 use crate::page_tables::word_of_right;
@@ -24,7 +27,7 @@ pub(crate) fn first_tables(rules: &[PolicyRule], processes: usize, memory: &mut 
     requires regions { HasFewRegions rules.now }
     ensures words { HasEmptyTable memory.old → (g : GrantsState)
         → g.table ≡ with_rules (replicate processes []) 1 rules.now → AreInOrder g
-        → HasWords memory.new result g }
+        → TablesHaveWords memory.new result g }
     ensures elsewhere { (f : ℕ) → (f < 2) ⊎ (402 ≤ f)
         → frame_of memory.new f ≡ frame_of memory.old f }
 {

@@ -1,8 +1,8 @@
 //! How many entries name each page.
 ghost use Rattle.std.specs.Prelude.{◌≡◌, ℕ, ◌+◌, ◌<◌, ◌≤◌, ◌^◌, length, slice_index, IfSome};
 ghost use Rattle.std.specs.List.{All};
-ghost use Rattle.ds_grants.specs.Sound.{IsGoodRow};
-ghost use Rattle.ds_grants.specs.Counts.{page_of, holders_in, holders_of, AreOneMore, AreOneFewer};
+ghost use Rattle.ds_grants.specs.Inner.Sound.{IsGoodRow};
+ghost use Rattle.ds_grants.specs.Inner.Counts.{page_of, holders_in, holders_of, AreOneMore, AreOneFewer};
 
 use ds_policy::{Entry, Grant, Table};
 

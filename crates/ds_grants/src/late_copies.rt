@@ -4,11 +4,13 @@ ghost use Rattle.ds_mem.specs.Memory.{frame_of};
 ghost use Rattle.ds_policy.specs.declared.grant.Grant.{Grant};
 ghost use Rattle.ds_policy.specs.declared.grant.Right.TheVariants.{Write};
 ghost use Rattle.ds_policy.specs.Pages.{entry_at};
-ghost use Rattle.ds_grants.specs.State.{IsAsLarge, is_live, page_state};
-ghost use Rattle.ds_grants.specs.Counts.{page_of};
-ghost use Rattle.ds_grants.specs.Copies.{AreRewritten, with_own_frame};
-ghost use Rattle.ds_grants.specs.Frames.{AreLying, total};
-ghost use Rattle.ds_grants.specs.Represented.{IsHigh, Keeps};
+ghost use Rattle.ds_grants.specs.State.{is_live, page_state};
+ghost use Rattle.ds_grants.specs.Inner.State.{IsAsLarge};
+ghost use Rattle.ds_grants.specs.Inner.Counts.{page_of};
+ghost use Rattle.ds_grants.specs.Copies.{AreRewritten};
+ghost use Rattle.ds_grants.specs.Inner.Copies.{with_own_frame};
+ghost use Rattle.ds_grants.specs.Inner.Frames.{AreLying, total};
+ghost use Rattle.ds_grants.specs.Inner.Represented.{IsHigh, Keeps};
 
 use crate::grants::Grants;
 use crate::holders::page_of;

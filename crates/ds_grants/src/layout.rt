@@ -33,7 +33,7 @@ pub(crate) struct Layout {
 }
 
 impl Model for Layout {
-    ghost use Rattle.ds_grants.specs.State.{LayoutState};
+    ghost use Rattle.ds_grants.specs.Inner.State.{LayoutState};
 
     ghost Value = { LayoutState };
 

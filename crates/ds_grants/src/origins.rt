@@ -1,6 +1,6 @@
 //! From which addresses of a process something may have been shared, and which processes may have it.
 ghost use Rattle.std.specs.Prelude.{◌≡◌, ◌≢◌, ◌==◌, ◌<◌, ℕ, true, false, [], length, position, slice_index_or, Some, None};
-ghost use Rattle.ds_grants.specs.Origins.{Has, of_others, receivers_of, slot_of, AreSeen, AreApart};
+ghost use Rattle.ds_grants.specs.Inner.Origins.{Has, of_others, receivers_of, slot_of, AreSeen, AreApart};
 
 use arrayvec::ArrayVec;
 use std::marker::Model;
@@ -46,7 +46,7 @@ pub(crate) struct Origins {
 }
 
 impl Model for Origins {
-    ghost use Rattle.ds_grants.specs.Origins.{OriginsState, AreSeen, AreApart};
+    ghost use Rattle.ds_grants.specs.Inner.Origins.{OriginsState, AreSeen, AreApart};
 
     ghost Value = { OriginsState };
 

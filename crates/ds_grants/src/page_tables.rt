@@ -3,9 +3,10 @@ ghost use Rattle.std.specs.Prelude.{◌≡◌, ℕ, ◌<◌, ◌≤◌, ◌==◌
 ghost use Rattle.std.specs.List.{list_any};
 ghost use Rattle.ds_policy.specs.declared.grant.Entry as granted;
 ghost use Rattle.ds_tables.specs.Places.{region_of};
-ghost use Rattle.ds_grants.specs.State.{GrantsState, place_of_page};
+ghost use Rattle.ds_grants.specs.State.{GrantsState};
+ghost use Rattle.ds_grants.specs.Inner.State.{place_of_page};
 ghost use Rattle.ds_grants.specs.Words.{word_of_right};
-ghost use Rattle.ds_grants.specs.Changes.{all_closed};
+ghost use Rattle.ds_grants.specs.Inner.Changes.{all_closed};
 
 use crate::layout::{Place, frame_in_memory};
 use ds_policy::{Entry, Right};

@@ -5,14 +5,18 @@ ghost use Rattle.ds_tlb.specs.declared.entry.Entry.{Entry};
 ghost use Rattle.ds_tlb.specs.Entries.{empty_entries};
 ghost use Rattle.ds_policy.specs.declared.grant.Grant.{Grant};
 ghost use Rattle.ds_policy.specs.Pages.{Table};
-ghost use Rattle.ds_grants.specs.State.{GrantsState, with_grant, erased_grant};
-ghost use Rattle.ds_tables.specs.Places.{Places, ArePlaces, region_of, opened};
-ghost use Rattle.ds_tables.specs.Tables.{with_entry};
-ghost use Rattle.ds_asid.specs.Spaces.{Spaces, number_held, after_take};
+ghost use Rattle.ds_grants.specs.State.{GrantsState};
+ghost use Rattle.ds_grants.specs.Inner.State.{with_grant, erased_grant};
+ghost use Rattle.ds_tables.specs.Places.{Places, ArePlaces, region_of};
+ghost use Rattle.ds_tables.specs.Inner.Places.{opened};
+ghost use Rattle.ds_tables.specs.Inner.Tables.{with_entry};
+ghost use Rattle.ds_asid.specs.Spaces.{Spaces};
+ghost use Rattle.ds_asid.specs.Inner.Spaces.{number_held, after_take};
 ghost use Rattle.ds_grants.specs.Words.{word_of_grant};
-ghost use Rattle.ds_grants.specs.Changes.{both_forgotten, memory_without, places_without};
-ghost use Rattle.ds_grants.specs.Parents.{AreAlike};
-ghost use Rattle.ds_grants.specs.Represented.{IsRepresented, Keeps, IsLow, IsHigh, HasPlace};
+ghost use Rattle.ds_grants.specs.Inner.Changes.{both_forgotten, memory_without, places_without};
+ghost use Rattle.ds_grants.specs.Inner.Parents.{AreAlike};
+ghost use Rattle.ds_grants.specs.Represented.{IsRepresented};
+ghost use Rattle.ds_grants.specs.Inner.Represented.{Keeps, IsLow, IsHigh, HasPlace};
 
 /// What is granted stays represented when an entry of a process is put with its word, or removed, and
 /// the buffer forgets in the process's address space, be it on the processor or not.

@@ -2,11 +2,12 @@
 ghost use Rattle.std.specs.Prelude.{◌≡◌, ◌<◌, ◌≤◌, ◌/◌, ◌^◌, length, slice_index};
 ghost use Rattle.std.specs.List.{All};
 ghost use Rattle.ds_grants.specs.State.{GrantsState, is_shared};
-ghost use Rattle.ds_grants.specs.Sound.{IsGoodRow};
-ghost use Rattle.ds_grants.specs.Copies.{LiesOtherwise, AreRewritten};
-ghost use Rattle.ds_grants.specs.Represented.{IsLow, Keeps};
+ghost use Rattle.ds_grants.specs.Inner.Sound.{IsGoodRow};
+ghost use Rattle.ds_grants.specs.Copies.{AreRewritten};
+ghost use Rattle.ds_grants.specs.Inner.Copies.{LiesOtherwise};
+ghost use Rattle.ds_grants.specs.Inner.Represented.{IsLow, Keeps};
 ghost use Rattle.ds_policy.specs.Pages.{names};
-ghost use Rattle.ds_grants.specs.Rewords.{word_at, with_word, with_lo, with_entry_lo, memory_at, buffer_at, memory_of_row, buffer_of_row, memory_of_rows, buffer_of_rows};
+ghost use Rattle.ds_grants.specs.Inner.Rewords.{word_at, with_word, with_lo, with_entry_lo, memory_at, buffer_at, memory_of_row, buffer_of_row, memory_of_rows, buffer_of_rows};
 
 use crate::layout::Place;
 use crate::page_tables::word_of_right;

@@ -1,6 +1,6 @@
 //! Which processes may have what was shared from the entries of each.
 ghost use Rattle.std.specs.Prelude.{◌≡◌, ℕ, ◌+◌, ◌<◌, ◌≤◌, true, false, length, slice_set, IfOk};
-ghost use Rattle.ds_grants.specs.Origins.{Has, receivers_at, KeepsReceivers, KeepsOthers, MayHave};
+ghost use Rattle.ds_grants.specs.Inner.Origins.{Has, receivers_at, KeepsReceivers, KeepsOthers, MayHave};
 
 use crate::origins::{EVERYONE, Origins};
 use ds_mem::OutOfMemory;
@@ -17,7 +17,7 @@ pub(crate) struct Sharing {
 
 impl Model for Sharing {
     ghost use Rattle.std.specs.Prelude.{List};
-    ghost use Rattle.ds_grants.specs.Origins.{OriginsState};
+    ghost use Rattle.ds_grants.specs.Inner.Origins.{OriginsState};
 
     ghost Value = { List OriginsState };
 

@@ -4,17 +4,20 @@ ghost use Rattle.std.specs.List.{list_any};
 ghost use Rattle.ds_policy.specs.declared.grant.Entry.{Entry};
 ghost use Rattle.ds_policy.specs.declared.grant.Grant.{Grant};
 ghost use Rattle.ds_policy.specs.Grants.{region, count_distinct};
-ghost use Rattle.ds_grants.specs.State.{GrantsState, with_grant, erased_grant};
-ghost use Rattle.ds_tables.specs.Places.{Places, ArePlaces, region_of, places_of, place_of, has_place, opened};
-ghost use Rattle.ds_tables.specs.Tables.{HasEmptyTable, with_entry};
+ghost use Rattle.ds_grants.specs.State.{GrantsState};
+ghost use Rattle.ds_grants.specs.Inner.State.{with_grant, erased_grant};
+ghost use Rattle.ds_tables.specs.Places.{Places, ArePlaces, region_of, places_of, region_place};
+ghost use Rattle.ds_tables.specs.Inner.Places.{has_place, opened};
+ghost use Rattle.ds_tables.specs.Tables.{HasEmptyTable};
+ghost use Rattle.ds_tables.specs.Inner.Tables.{with_entry};
 ghost use Rattle.ds_grants.specs.Words.{regions_taken, word_of_grant, WordsHold};
-ghost use Rattle.ds_grants.specs.Changes.{memory_without, places_without};
+ghost use Rattle.ds_grants.specs.Inner.Changes.{memory_without, places_without};
 
 /// An entry would lie in a fifth region exactly where there is no place for the region's table.
 pub fn a_fifth_region_has_no_place()
     ensures { (t : Places) (p r : ℕ) (es : List Entry) → length (places_of t p) ≡ 4
         → count_distinct (regions_taken (places_of t p)) ≡ length (regions_taken (places_of t p))
-        → ((s : ℕ) → is_some (place_of t p s) ≡ list_any (λ (e : Entry). region_of e.address == s) es)
+        → ((s : ℕ) → is_some (region_place t p s) ≡ list_any (λ (e : Entry). region_of e.address == s) es)
         → nat_lt 4 (count_distinct (r ∷ map (λ (e : Entry). region e.address) es)) ≡ not (has_place t p r) }
 {}
 

@@ -1,6 +1,6 @@
 //! How many entries name each page, as one value.
 ghost use Rattle.std.specs.Prelude.{◌≡◌, ℕ, ◌+◌, ◌<◌, ◌≤◌, ◌^◌, length, slice_index, IfSome};
-ghost use Rattle.ds_grants.specs.Counts.{holders_in, AreOneMore, AreOneFewer};
+ghost use Rattle.ds_grants.specs.Inner.Counts.{holders_in, AreOneMore, AreOneFewer};
 
 use crate::holders::{hold, release, release_all};
 use ds_policy::Entry;

@@ -1,6 +1,6 @@
 //! What the translation lookaside buffer holds of entries.
 ghost use Rattle.std.specs.Prelude.{◌≡◌, ◌+◌, ◌/◌, ◌^◌, ◌<◌};
-ghost use Rattle.ds_grants.specs.Changes.{forgotten, both_forgotten};
+ghost use Rattle.ds_grants.specs.Inner.Changes.{forgotten, both_forgotten};
 
 use ds_tlb::{Entry, Lookaside};
 

@@ -8,8 +8,9 @@ use Rattle.ds_isa.specs.Registers.{Registers, read}
 use Rattle.ds_isa.specs.declared.uses.Shape.TheVariants.{Straight}
 use Rattle.ds_isa.specs.Uses.{uses}
 use Rattle.ds_isa.specs.Meaning.{Faults, meaning, overflow, written_or_trap}
-use Rattle.ds_isa.specs.Shapes.{effect_shape}
-use Rattle.ds_isa.specs.Access.{access_size, size_asked}
+use Rattle.ds_isa.specs.Inner.Shapes.{effect_shape}
+use Rattle.ds_isa.specs.Access.{access_size}
+use Rattle.ds_isa.specs.Inner.Access.{size_asked}
 
 -- a trap asks for no access
 trap_asks : (r : Registers) (n : ℕ) (v : Option ℕ) → size_asked (written_or_trap r n v) ≡ None

@@ -1,5 +1,5 @@
 -- Accesses: what they do, which addresses suit them, and which size an instruction asks for.
-use Rattle.std.specs.Prelude.{ℕ, ◌%◌, ◌==◌, Bool, true, false, Option, Some, None}
+use Rattle.std.specs.Prelude.{ℕ, ◌%◌, ◌==◌, Bool, true, false, Option}
 use Rattle.ds_isa.specs.declared.instr.Size.{Size}
 use Rattle.ds_isa.specs.declared.instr.Size.TheVariants.{Byte, Half, Word, Part}
 use Rattle.ds_isa.specs.declared.instr.Kind.{Kind}
@@ -7,7 +7,6 @@ use Rattle.ds_isa.specs.declared.instr.Kind.TheVariants.{Fetch, Load, Store}
 use Rattle.ds_isa.specs.declared.instr.Instr.{Instr}
 use Rattle.ds_isa.specs.Uses.{uses}
 use Rattle.ds_isa.specs.Shapes.{size_of}
-use Rattle.ds_isa.specs.Meaning.{Effect, Loads, Stores}
 
 -- whether an access writes bytes
 abbrev pub is_store : Kind → Bool
@@ -25,9 +24,3 @@ is_aligned Part address = true
 -- the size of the load or the store that an instruction is, if it is one
 abbrev pub access_size : Instr → Option Size
 access_size i = size_of (uses i).shape
-
--- the size of the load or the store that an effect asks for, if it asks for one
-abbrev pub size_asked : Effect → Option Size
-size_asked (Loads size address after) = Some size
-size_asked (Stores size address after) = Some size
-size_asked other = None

@@ -1,6 +1,6 @@
 -- The table of instructions (Kane and Heinrich, appendix A): what it says of a word, of an
 -- instruction and of a source text.
-use Rattle.std.specs.Prelude.{ℕ, ◌+◌, ◌*◌, ◌^◌, Bool, false, not, ◌&&◌, ◌||◌, nat_le, ◌==◌, if◌then◌else◌, List, [], ◌∷◌, codes, filter}
+use Rattle.std.specs.Prelude.{ℕ, ◌+◌, ◌*◌, ◌^◌, Bool, false, not, ◌&&◌, ◌||◌, nat_le, ◌==◌, if◌then◌else◌, List, [], ◌∷◌, codes}
 use Rattle.std.specs.List.{list_all, sum_by, flat_map}
 use Rattle.ds_isa.specs.declared.instr.Instr.{Instr}
 use Rattle.ds_isa.specs.declared.instr.Instr.TheVariants as instr
@@ -145,10 +145,6 @@ rows =
     system (codes "tlbp") 8 instr.Tlbp ∷
     system (codes "rfe") 16 instr.Rfe ∷
     []
-
--- the rows that a word fits
-abbrev pub rows_of : ℕ → List Row
-rows_of w = filter (λ row. fits row w) rows
 
 -- the operations of the coprocessors
 abbrev pub is_coprocessor : ℕ → Bool

@@ -1,9 +1,9 @@
 pub mod Fields
 pub mod Instruction
 pub mod Uses
-pub mod Encoding
 pub mod Registers
 pub mod Meaning
 pub mod Shapes
 pub mod Rows
 pub mod Access
+pub mod Inner

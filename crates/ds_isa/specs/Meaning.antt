@@ -38,12 +38,12 @@ abbrev pub with_hi_lo : Registers → ℕ × ℕ → Effect
 with_hi_lo r v = Goes (record r { hi = v.0; lo = v.1; late = None })
 
 -- the address after a branch and its slot
-abbrev pub behind_slot : ℕ → ℕ
-behind_slot pc = word (pc + 8)
+abbrev pub past_slot : ℕ → ℕ
+past_slot pc = word (pc + 8)
 
 -- the target of a taken branch, else the place after the slot
 abbrev pub branch_target : Bool → ℕ → ℕ → ℕ
-branch_target taken pc i = if taken then word (pc + 4 + 4 * sign_extended 16 i) else behind_slot pc
+branch_target taken pc i = if taken then word (pc + 4 + 4 * sign_extended 16 i) else past_slot pc
 
 -- the target of a jump, in the region of 2^28 bytes of its slot
 abbrev pub jump_target : ℕ → ℕ → ℕ
@@ -55,11 +55,11 @@ branches r taken pc i = Branches (settled r) (branch_target taken pc i)
 
 -- the same, with the place after the slot in register 31
 abbrev pub links_and_branches : Registers → Bool → ℕ → ℕ → Effect
-links_and_branches r taken pc i = Branches (written r 31 (behind_slot pc)) (branch_target taken pc i)
+links_and_branches r taken pc i = Branches (written r 31 (past_slot pc)) (branch_target taken pc i)
 
 -- the address of a load or a store
-abbrev pub address_of : Registers → ℕ → ℕ → ℕ
-address_of r rs i = word (read r rs + sign_extended 16 i)
+abbrev pub access_address : Registers → ℕ → ℕ → ℕ
+access_address r rs i = word (read r rs + sign_extended 16 i)
 
 -- a load of register rt at an address, by what it makes of the aligned word and the byte of it that is addressed
 abbrev pub loads : Size → Registers → ℕ → ℕ → (ℕ → ℕ → ℕ) → Effect
@@ -82,7 +82,7 @@ meaning (instr.Sllv rd rt rs) pc r = Goes (written r rd (word (read r rt * 2 ^ (
 meaning (instr.Srlv rd rt rs) pc r = Goes (written r rd (read r rt / 2 ^ (read r rs % 32)))
 meaning (instr.Srav rd rt rs) pc r = Goes (written r rd (shifted_arithmetic (read r rt) (read r rs % 32)))
 meaning (instr.Jr rs) pc r = Branches (settled r) (read r rs)
-meaning (instr.Jalr rd rs) pc r = Branches (written r rd (behind_slot pc)) (read r rs)
+meaning (instr.Jalr rd rs) pc r = Branches (written r rd (past_slot pc)) (read r rs)
 meaning (instr.Syscall code) pc r = Calls
 meaning (instr.Break code) pc r = Faults 9
 meaning (instr.Mfhi rd) pc r = Goes (written r rd r.hi)
@@ -108,7 +108,7 @@ meaning (instr.Bgez rs i) pc r = branches r (not (is_negative (read r rs))) pc i
 meaning (instr.Bltzal rs i) pc r = links_and_branches r (is_negative (read r rs)) pc i
 meaning (instr.Bgezal rs i) pc r = links_and_branches r (not (is_negative (read r rs))) pc i
 meaning (instr.J target) pc r = Branches (settled r) (jump_target pc target)
-meaning (instr.Jal target) pc r = Branches (written r 31 (behind_slot pc)) (jump_target pc target)
+meaning (instr.Jal target) pc r = Branches (written r 31 (past_slot pc)) (jump_target pc target)
 meaning (instr.Beq rs rt i) pc r = branches r (read r rs == read r rt) pc i
 meaning (instr.Bne rs rt i) pc r = branches r (not (read r rs == read r rt)) pc i
 meaning (instr.Blez rs i) pc r = branches r (is_negative (read r rs) || (read r rs == 0)) pc i
@@ -121,18 +121,18 @@ meaning (instr.Andi rt rs i) pc r = Goes (written r rt (bit_and (read r rs) i))
 meaning (instr.Ori rt rs i) pc r = Goes (written r rt (bit_or (read r rs) i))
 meaning (instr.Xori rt rs i) pc r = Goes (written r rt (bit_xor (read r rs) i))
 meaning (instr.Lui rt i) pc r = Goes (written r rt (i * 2 ^ 16))
-meaning (instr.Lb rt rs i) pc r = loads size.Byte r rt (address_of r rs i) (λ w b. sign_extended 8 (bits w (8 * b) 8))
-meaning (instr.Lh rt rs i) pc r = loads size.Half r rt (address_of r rs i) (λ w b. sign_extended 16 (bits w (8 * b) 16))
-meaning (instr.Lwl rt rs i) pc r = loads size.Part r rt (address_of r rs i) (λ w b. merged_left w b (newest r rt))
-meaning (instr.Lw rt rs i) pc r = loads size.Word r rt (address_of r rs i) (λ w b. w)
-meaning (instr.Lbu rt rs i) pc r = loads size.Byte r rt (address_of r rs i) (λ w b. bits w (8 * b) 8)
-meaning (instr.Lhu rt rs i) pc r = loads size.Half r rt (address_of r rs i) (λ w b. bits w (8 * b) 16)
-meaning (instr.Lwr rt rs i) pc r = loads size.Part r rt (address_of r rs i) (λ w b. merged_right w b (newest r rt))
-meaning (instr.Sb rt rs i) pc r = stores size.Byte (address_of r rs i) (λ w b. with_bits w (8 * b) 8 (read r rt))
-meaning (instr.Sh rt rs i) pc r = stores size.Half (address_of r rs i) (λ w b. with_bits w (8 * b) 16 (read r rt))
-meaning (instr.Swl rt rs i) pc r = stores size.Part (address_of r rs i) (λ w b. stored_left w b (read r rt))
-meaning (instr.Sw rt rs i) pc r = stores size.Word (address_of r rs i) (λ w b. read r rt)
-meaning (instr.Swr rt rs i) pc r = stores size.Part (address_of r rs i) (λ w b. stored_right w b (read r rt))
+meaning (instr.Lb rt rs i) pc r = loads size.Byte r rt (access_address r rs i) (λ w b. sign_extended 8 (bits w (8 * b) 8))
+meaning (instr.Lh rt rs i) pc r = loads size.Half r rt (access_address r rs i) (λ w b. sign_extended 16 (bits w (8 * b) 16))
+meaning (instr.Lwl rt rs i) pc r = loads size.Part r rt (access_address r rs i) (λ w b. merged_left w b (newest r rt))
+meaning (instr.Lw rt rs i) pc r = loads size.Word r rt (access_address r rs i) (λ w b. w)
+meaning (instr.Lbu rt rs i) pc r = loads size.Byte r rt (access_address r rs i) (λ w b. bits w (8 * b) 8)
+meaning (instr.Lhu rt rs i) pc r = loads size.Half r rt (access_address r rs i) (λ w b. bits w (8 * b) 16)
+meaning (instr.Lwr rt rs i) pc r = loads size.Part r rt (access_address r rs i) (λ w b. merged_right w b (newest r rt))
+meaning (instr.Sb rt rs i) pc r = stores size.Byte (access_address r rs i) (λ w b. with_bits w (8 * b) 8 (read r rt))
+meaning (instr.Sh rt rs i) pc r = stores size.Half (access_address r rs i) (λ w b. with_bits w (8 * b) 16 (read r rt))
+meaning (instr.Swl rt rs i) pc r = stores size.Part (access_address r rs i) (λ w b. stored_left w b (read r rt))
+meaning (instr.Sw rt rs i) pc r = stores size.Word (access_address r rs i) (λ w b. read r rt)
+meaning (instr.Swr rt rs i) pc r = stores size.Part (access_address r rs i) (λ w b. stored_right w b (read r rt))
 meaning (instr.Mfc0 rt rd) pc r = Privileged
 meaning (instr.Mtc0 rt rd) pc r = Privileged
 meaning instr.Tlbr pc r = Privileged

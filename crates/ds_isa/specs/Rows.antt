@@ -4,7 +4,7 @@ use Rattle.ds_isa.specs.declared.instr.Instr.TheVariants as instr
 use Rattle.ds_isa.specs.declared.instr.Size.TheVariants as size
 use Rattle.ds_isa.specs.Instruction.{instruction_of, rows}
 use Rattle.ds_isa.specs.Uses.{storing, loading, branching, uses}
-use Rattle.ds_isa.specs.Encoding.{encoded}
+use Rattle.ds_isa.specs.Inner.Encoding.{encoded}
 use Rattle.ds_isa.specs.Registers.{Registers, zero_registers, read, settled, written, loaded}
 use Rattle.ds_isa.specs.Meaning.{Effect, meaning, Goes, Branches, Loads, Stores, Faults, Calls, Privileged}
 

@@ -1,11 +1,12 @@
 //! Accesses: what they do, which addresses suit them, which size an instruction asks for, and the shape of its effect.
 ghost use Rattle.std.specs.Prelude.{◌≡◌, ◌≢◌, ℕ};
 ghost use Rattle.ds_isa.specs.declared.instr.Instr.{Instr};
-ghost use Rattle.ds_isa.specs.Access.{is_store, is_aligned, access_size, size_asked};
+ghost use Rattle.ds_isa.specs.Access.{is_store, is_aligned, access_size};
+ghost use Rattle.ds_isa.specs.Inner.Access.{size_asked};
 ghost use Rattle.ds_isa.specs.Uses.{uses};
 ghost use Rattle.ds_isa.specs.Meaning.{Faults, meaning, overflow};
 ghost use Rattle.ds_isa.specs.Registers.{Registers};
-ghost use Rattle.ds_isa.specs.Shapes.{effect_shape};
+ghost use Rattle.ds_isa.specs.Inner.Shapes.{effect_shape};
 
 use crate::instr::{Instr, Kind, Size};
 use crate::uses::{Shape, shape_of};

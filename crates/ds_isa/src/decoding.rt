@@ -1,8 +1,9 @@
 //! From a word to its instruction.
 ghost use Rattle.std.specs.Prelude.{◌≡◌, ◌≤◌, length};
 ghost use Rattle.ds_word.specs.Word.{bits};
-ghost use Rattle.ds_isa.specs.Instruction.{instruction_of, rows_of};
-ghost use Rattle.ds_isa.specs.Encoding.{encoded};
+ghost use Rattle.ds_isa.specs.Instruction.{instruction_of};
+ghost use Rattle.ds_isa.specs.Inner.Instruction.{rows_of};
+ghost use Rattle.ds_isa.specs.Inner.Encoding.{encoded};
 
 use crate::instr::Instr;
 use crate::instruction_table;

@@ -1,6 +1,6 @@
 //! From an instruction to its word.
 ghost use Rattle.std.specs.Prelude.{◌≡◌, ◌*◌, ◌%◌, ◌^◌};
-ghost use Rattle.ds_isa.specs.Encoding.{encoded};
+ghost use Rattle.ds_isa.specs.Inner.Encoding.{encoded};
 
 use crate::instr::Instr;
 use crate::instruction_table;

@@ -5,17 +5,17 @@ use Rattle.std.specs.List.Sorted.{IsNonDecreasingBy}
 use Rattle.std.proofs.lemmas.Bool.Decides.{nat_tests}
 use Rattle.std.proofs.Math.Nat.{min-eq_left, min-eq_right, min-le_right}
 use Rattle.ds_cp0.specs.System.{is_user}
-use Rattle.ds_ahead.specs.Ahead.{owed_tick}
+use Rattle.ds_ahead.specs.Inner.Ahead.{owed_tick}
 use Rattle.ds_policy.specs.InputFacts.{has_time, comes_at}
 use Rattle.ds_pagemap.specs.declared.turn.Turn.{Turn}
 use Rattle.ds_pagemap.specs.Machine.{first}
-use Rattle.ds_refinement.specs.Blocks.{MayRunAhead}
+use Rattle.ds_refinement.specs.Inner.Blocks.{MayRunAhead}
 use Rattle.ds_refinement.proofs.Quieter.{quiet_until, user_status_of}
 use Rattle.ds_refinement.proofs.Tallied.{few_of}
-use Rattle.ds_monitor.specs.Coming.{first_time, first_due, period_end}
+use Rattle.ds_monitor.specs.Inner.Coming.{first_time, first_due, period_end}
 use Rattle.ds_kernel.specs.declared.parts.Parts.{Parts}
-use Rattle.ds_kernel.specs.Parts.{held}
-use Rattle.ds_kernel.specs.Good.{IsGood}
+use Rattle.ds_kernel.specs.Inner.Parts.{held}
+use Rattle.ds_kernel.specs.Inner.Good.{IsGood}
 use Rattle.ds_kernel.proofs.Waiting.{due_later, passed_later}
 use Rattle.ds_kernel.proofs.Bounding.{nothing_due}
 use Rattle.ds_kernel.proofs.Doing.{owed_small}

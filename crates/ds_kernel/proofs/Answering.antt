@@ -14,9 +14,9 @@ use Rattle.ds_pagemap.specs.Calls.{answered, or_number, or_denied, queue_of, aft
 use Rattle.ds_pagemap.specs.Unit.{settle, at_pc}
 use Rattle.ds_refinement.specs.Held.{Kept}
 use Rattle.ds_refinement.specs.Units.{ends_in_call}
-use Rattle.ds_refinement.specs.Services.{Serves}
+use Rattle.ds_refinement.specs.Inner.Services.{Serves}
 use Rattle.ds_refinement.proofs.Registers.{HasSeat, seat_kept, process_put, registers_put}
-use Rattle.ds_kernel.specs.Seats.{AreAnswered}
+use Rattle.ds_kernel.specs.Inner.Seats.{AreAnswered}
 
 -- the registers but for an answer in register 2
 abbrev Answers : Registers → Registers → Type 0
@@ -84,11 +84,11 @@ caller_answered old new before after p unit seat long serves =
     let r : Registers = (process_of old.state p).registers in
     let quiet : State = settle m p in
     let quiet_seat : HasSeat quiet p = seat_kept m p (record (process_of m p) { registers = settled r }) seat in
-    let behind : State = at_pc quiet p (word (unit + 4)) in
-    let behind_seat : HasSeat behind p = seat_kept quiet p (record (process_of quiet p) { pc = word (unit + 4) }) quiet_seat in
-    let same : (process_of behind p).registers ≡ settled r =
+    let afterwards : State = at_pc quiet p (word (unit + 4)) in
+    let after_seat : HasSeat afterwards p = seat_kept quiet p (record (process_of quiet p) { pc = word (unit + 4) }) quiet_seat in
+    let same : (process_of afterwards p).registers ≡ settled r =
     ap (λ (q : Process). q.registers) (process_put quiet p (record (process_of quiet p) { pc = word (unit + 4) }) quiet_seat) ∙ registers_put m p (settled r) seat in
-    let done : Answers (process_of behind p).registers (process_of (served behind p unit (call_of (process_of behind p).registers.general)) p).registers =
-    by_call behind p behind_seat unit (call_of (process_of behind p).registers.general) in
+    let done : Answers (process_of afterwards p).registers (process_of (served afterwards p unit (call_of (process_of afterwards p).registers.general)) p).registers =
+    by_call afterwards p after_seat unit (call_of (process_of afterwards p).registers.general) in
     named r (process_of new.state p).registers long
     (done.0, sym (ap (λ (s : State). (process_of s p).registers) (serves.state [])) ∙ (done.1 ∙ ap (λ (x : Registers). record x { general = slice_set x.general 2 done.0 }) same))

@@ -10,11 +10,11 @@ use Rattle.ds_policy.specs.declared.command.Character.{Character}
 use Rattle.ds_pagemap.specs.Boundary.{queued, all_queued}
 use Rattle.ds_pagemap_laws.specs.Due.{come}
 use Rattle.ds_monitor.specs.declared.monitor.Monitor.{Monitor}
-use Rattle.ds_monitor.specs.Kept.{kept_of}
+use Rattle.ds_monitor.specs.Inner.Kept.{kept_of}
 use Rattle.ds_kernel.specs.declared.devices.Typed.{Typed}
 use Rattle.ds_kernel.specs.declared.parts.Parts.{Parts}
-use Rattle.ds_kernel.specs.Devices.{IsOfLine, all_received, typed, oldest, emptied, lost_behind}
-use Rattle.ds_kernel.specs.Attended.{to_come}
+use Rattle.ds_kernel.specs.Inner.Devices.{IsOfLine, all_received, typed, oldest, emptied, lost_after}
+use Rattle.ds_kernel.specs.Inner.Attended.{to_come}
 use Rattle.ds_policy.specs.InputFacts.{comes_at}
 use Rattle.ds_policy.specs.Value.{InputValue}
 use Rattle.ds_monitor.proofs.Coming.{none_come, all_stay}
@@ -47,7 +47,7 @@ nothing_taken d e = by d.silo e
     by (c ∷ rest) e = absurd (cc)
 
 emptied_none : (d : SerialState) → d.silo ≡ [] → emptied d ≡ d
-emptied_none d e = ap (λ (silo : List Received). record d { silo = []; overrun = lost_behind silo d.overrun }) e ∙ ap (λ (silo : List Received). record d { silo = silo }) (sym e)
+emptied_none d e = ap (λ (silo : List Received). record d { silo = []; overrun = lost_after silo d.overrun }) e ∙ ap (λ (silo : List Received). record d { silo = silo }) (sym e)
 
 -- where the silo has no character left, all that was received is read
 pub drained_is : {L : Type 0} (old last new : Parts L)
@@ -65,29 +65,29 @@ drained_is {L = L} old last new rest is none serial queues =
 
 -- A character that is read goes to its queue.
 
-abbrev behind : SerialState → List Received → SerialState
-behind d silo = (taken (record d { silo = silo }) (slice_get silo 0)).1
+abbrev afterwards : SerialState → List Received → SerialState
+afterwards d silo = (taken (record d { silo = silo }) (slice_get silo 0)).1
 
 queued_by : (ch : Typed) (silo : List Received) (d : SerialState) (queues : List (List ℕ)) (time : ℕ) → oldest silo ≡ Some ch
-    → all_queued (queued queues (record { time = time; line = ch.line; byte = ch.byte })) (map typed (behind d silo).silo) ≡ all_queued queues (map typed silo)
+    → all_queued (queued queues (record { time = time; line = ch.line; byte = ch.byte })) (map typed (afterwards d silo).silo) ≡ all_queued queues (map typed silo)
 queued_by ch [] d queues time e = absurd (cc)
 queued_by ch (c ∷ rest) d queues time e =
     let same : record { line = c.line; byte = c.byte } ≡ ch = cc in
     ap (λ (x : Typed). all_queued (queued queues (record { time = time; line = x.line; byte = x.byte })) (map typed rest)) (sym same)
 
-none_lost : (silo : List Received) → lost_behind silo false ≡ false
+none_lost : (silo : List Received) → lost_after silo false ≡ false
 none_lost [] = refl
 none_lost (c ∷ rest) = refl
 
-emptied_by : (ch : Typed) (silo : List Received) (d : SerialState) → oldest silo ≡ Some ch → emptied (behind d silo) ≡ emptied (record d { silo = silo })
+emptied_by : (ch : Typed) (silo : List Received) (d : SerialState) → oldest silo ≡ Some ch → emptied (afterwards d silo) ≡ emptied (record d { silo = silo })
 emptied_by ch [] d e = absurd (cc)
 emptied_by ch (c ∷ rest) d e = ap (λ (lost : Bool). record d { silo = []; overrun = lost }) (none_lost rest)
 
-lines_by : (ch : Typed) (silo : List Received) (d : SerialState) → oldest silo ≡ Some ch → All IsOfLine silo → All IsOfLine (behind d silo).silo
+lines_by : (ch : Typed) (silo : List Received) (d : SerialState) → oldest silo ≡ Some ch → All IsOfLine silo → All IsOfLine (afterwards d silo).silo
 lines_by ch [] d e all = absurd (cc)
 lines_by ch (c ∷ rest) d e all = All-tail IsOfLine c rest all
 
-shorter_by : (ch : Typed) (silo : List Received) (d : SerialState) → oldest silo ≡ Some ch → length (behind d silo).silo < length silo
+shorter_by : (ch : Typed) (silo : List Received) (d : SerialState) → oldest silo ≡ Some ch → length (afterwards d silo).silo < length silo
 shorter_by ch [] d e = absurd (cc)
 shorter_by ch (c ∷ rest) d e = omega arith
 

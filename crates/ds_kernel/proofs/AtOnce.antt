@@ -4,7 +4,7 @@ use Rattle.std.specs.Prelude.{slice_index, slice_set, slice_index_or, drop}
 use Rattle.ds_word.specs.Word.{word}
 use Rattle.ds_cp0.specs.System.{System, is_user}
 use Rattle.ds_core.specs.Core.{CoreState}
-use Rattle.ds_ahead.specs.Ahead.{owed_tick}
+use Rattle.ds_ahead.specs.Inner.Ahead.{owed_tick}
 use Rattle.ds_dev.specs.Bus.{BusState}
 use Rattle.ds_refill.specs.Handler.{HasWords}
 use Rattle.ds_procs.specs.declared.process.Standing.TheVariants.{Ready}
@@ -29,42 +29,44 @@ use Rattle.ds_pagemap_laws.proofs.Asleep.{taken_asleep}
 use Rattle.ds_refinement.specs.declared.step.Step.TheVariants.{Unit, Boundary}
 use Rattle.ds_refinement.specs.declared.cause.Cause.TheVariants as cause
 use Rattle.ds_refinement.specs.Told.{told, code_in, is_delayed}
-use Rattle.ds_refinement.specs.Held.{Held, Kept, Own, vacated, whole}
+use Rattle.ds_refinement.specs.Held.{Held, Kept, Own, vacated}
+use Rattle.ds_refinement.specs.Inner.Held.{whole}
 use Rattle.ds_refinement.specs.Units.{ends_in_call, is_served, has_left_user}
-use Rattle.ds_refinement.specs.Stands.{Agrees, CountedBy, Stands, IsSound, AreResting, RunningIs, RunningBy}
-use Rattle.ds_refinement.specs.Services.{Enters, EntersBy, IsBare, Serves, seated, with_first_seated, with_boundary, with_none_spent}
-use Rattle.ds_refinement.specs.Ends.{EndsInCall}
-use Rattle.ds_refinement.specs.Quiet.{IsQuiet}
-use Rattle.ds_refinement.specs.Real.{EndsReally, GoesOnReally, GoesBack}
+use Rattle.ds_refinement.specs.Stands.{Agrees, CountedBy, Stands, AreResting, RunningIs, RunningBy}
+use Rattle.ds_refinement.specs.Inner.Stands.{IsSound}
+use Rattle.ds_refinement.specs.Inner.Services.{Enters, EntersBy, IsBare, Serves, seated, with_first_seated, with_boundary, with_none_spent}
+use Rattle.ds_refinement.specs.Inner.Ends.{EndsInCall}
+use Rattle.ds_refinement.specs.Inner.Quiet.{IsUndisturbed}
+use Rattle.ds_refinement.specs.Real.{EndsUnitReally, GoesOnReally, GoesBack}
 use Rattle.ds_refinement.specs.Runs.{held_goes_on}
 use Rattle.ds_refinement.proofs.RunSteps.{begins_goes}
 use Rattle.ds_refinement.proofs.Boundaries.{quiet}
 use Rattle.ds_refinement.proofs.NoNewPairs.{same_pairs}
 use Rattle.ds_refinement.proofs.Registers.{HasSeat, seat_kept, process_put}
-use Rattle.ds_monitor.specs.Sending.{with_sent}
-use Rattle.ds_monitor.specs.Coming.{next_due}
-use Rattle.ds_monitor.specs.Kept.{kept_of, kept_after}
+use Rattle.ds_monitor.specs.Inner.Sending.{with_sent}
+use Rattle.ds_monitor.specs.Inner.Coming.{next_due}
+use Rattle.ds_monitor.specs.Inner.Kept.{kept_of, kept_after}
 use Rattle.ds_monitor.proofs.Serving.{blind_serves, serves_as}
-use Rattle.ds_monitor.specs.Blind.{IsBlind}
-use Rattle.ds_monitor.specs.Room.{HasLogRoom}
-use Rattle.ds_monitor.specs.Taking.{got, with_taken}
+use Rattle.ds_monitor.specs.Inner.Blind.{IsBlind}
+use Rattle.ds_monitor.specs.Inner.Room.{HasLogRoom}
+use Rattle.ds_monitor.specs.Inner.Taking.{got, with_taken}
 use Rattle.ds_monitor.proofs.Gets.{set_same, taken_answered}
 use Rattle.ds_monitor.proofs.Called.{with_end, called, call_ends, puts, gets}
-use Rattle.ds_kernel.specs.Seats.{behind_call, on_processor, back_on}
-use Rattle.ds_kernel.specs.AtOnce.{IsQuietCall, IsAnswered}
+use Rattle.ds_kernel.specs.Inner.Seats.{past_call, on_processor, back_on}
+use Rattle.ds_kernel.specs.Inner.AtOnce.{IsQuietCall, IsAnswered}
 use Rattle.ds_kernel.specs.declared.parts.Parts.{Parts}
-use Rattle.ds_kernel.specs.Parts.{held, own_of}
+use Rattle.ds_kernel.specs.Inner.Parts.{held, own_of}
 use Rattle.ds_refinement.proofs.Tallied.{ranges_of}
-use Rattle.ds_kernel.specs.Good.{IsOrderly, IsGood}
-use Rattle.ds_kernel.specs.Ended.{Does}
-use Rattle.ds_kernel.specs.Going.{GoesOn}
+use Rattle.ds_kernel.specs.Inner.Good.{IsOrderly, IsGood}
+use Rattle.ds_kernel.specs.Inner.Ended.{DoesStep}
+use Rattle.ds_kernel.specs.Inner.Going.{GoesOn}
 use Rattle.ds_kernel.proofs.Bounding.{nothing_due}
 use Rattle.ds_kernel.proofs.Doing.{call_does, kernel_of}
 use Rattle.ds_kernel.proofs.Entering.{entering}
 use Rattle.ds_kernel.proofs.Finishing.{resting, sent_rests}
 use Rattle.ds_kernel.proofs.Running.{step_goes, goes_join, owed_goes_on}
 use Rattle.ds_kernel.proofs.Keeping.{first_ready, first_rest}
-use Rattle.ds_kernel.proofs.Stepping.{sound_behind, none_is_not_some}
+use Rattle.ds_kernel.proofs.Stepping.{sound_after, none_is_not_some}
 
 -- what code 8 tells
 told_call : (s : System) (pages : PageState) (p : ℕ) → code_in s ≡ 8 → told s pages p ≡ cause.Call
@@ -81,7 +83,7 @@ with_texts m queues consoles = record m { queues = queues; consoles = consoles }
 -- What is held after a call of a process that stays on the processor: its boundary is owed, and its seat is as it was.
 abbrev owing_of : Held → ℕ → ℕ → List (List ℕ) → List (List ℕ) → BusState → ℕ → ℕ → Held
 owing_of h p answer queues consoles b cause epc = record {
-  core = back_on h.core (behind_call h.core answer (process_of h.kept.state p)) cause epc;
+  core = back_on h.core (past_call h.core answer (process_of h.kept.state p)) cause epc;
   bus = b;
   kept = record h.kept { state = record (with_texts h.kept.state queues consoles) { time = h.kept.state.time + 1; owed = Some (record { began = h.kept.state.time; runner = Some p }) } };
   own = with_none_spent h.own;
@@ -139,8 +141,8 @@ module _ (h : Held) (p : ℕ) (rest : List ℕ) (asked : Call) (answer : ℕ) (q
   abbrev past : Process
   past = record leaving { pc = word (pc + 4) }
 
-  abbrev behind : Process
-  behind = behind_call h.core answer q
+  abbrev afterwards : Process
+  afterwards = past_call h.core answer q
 
   abbrev owing : Held
   owing = owing_of h p answer queues consoles b cause epc
@@ -153,7 +155,7 @@ module _ (h : Held) (p : ℕ) (rest : List ℕ) (asked : Call) (answer : ℕ) (q
 
   -- the same with the process in its seat
   abbrev in_seat : Held
-  in_seat = record owing { kept = record h.kept { state = with_process later p behind } }
+  in_seat = record owing { kept = record h.kept { state = with_process later p afterwards } }
 
   -- The service.
 
@@ -175,14 +177,14 @@ module _ (h : Held) (p : ℕ) (rest : List ℕ) (asked : Call) (answer : ℕ) (q
   abbrev answer_in : Process → State
   answer_in x = with_end p (with_process (with_texts (with_process s p past) queues consoles) p (record x { registers = record x.registers { general = slice_set x.registers.general 2 answer } }))
 
-  calls_is : calls left ≡ with_process later p behind
+  calls_is : calls left ≡ with_process later p afterwards
   calls_is =
       let there : at_pc left p (word (pc + 4)) ≡ with_process s p past =
       ap (λ (x : Process). with_process left p (record x { pc = word (pc + 4) })) (process_put s p leaving seat) ∙ with_process_again s p leaving past in
       ap (λ (m : State). with_end p (served m p pc asked)) there
       ∙ (ap (with_end p) (by.does past refl)
       ∙ (ap answer_in (process_put s p past seat)
-      ∙ with_process_again later p past behind))
+      ∙ with_process_again later p past afterwards))
 
   serves : Serves (ends_in_call p pc) (seated h.core h.kept) h.bus.memory in_seat.kept b.memory
   serves =
@@ -203,14 +205,14 @@ module _ (h : Held) (p : ℕ) (rest : List ℕ) (asked : Call) (answer : ℕ) (q
   runs : RunningIs p h.core h.kept sound.state
   runs = subst (λ (ps : List ℕ). RunningBy ps h.core h.kept sound.state) ready sound.stands.agrees.running
 
-  there : process_of (with_process later p behind) p ≡ behind
-  there = process_put later p behind seat
+  there : process_of (with_process later p afterwards) p ≡ afterwards
+  there = process_put later p afterwards seat
 
   ends : EndsInCall p h in_seat
   ends = record {
     serves = serves;
-    enters = entered_by s.ready (on_processor h.core behind) in_seat.kept cause epc
-        (entering s.ready p h.core (on_processor h.core behind) in_seat.kept (ap first ready) (seat.0, (seat_kept later p behind seat).1, ap (λ (x : Process). x.standing) there ∙ standing) runs.number runs.set (ap (on_processor h.core) (sym there)));
+    enters = entered_by s.ready (on_processor h.core afterwards) in_seat.kept cause epc
+        (entering s.ready p h.core (on_processor h.core afterwards) in_seat.kept (ap first ready) (seat.0, (seat_kept later p afterwards seat).1, ap (λ (x : Process). x.standing) there ∙ standing) runs.number runs.set (ap (on_processor h.core) (sym there)));
     represented = subst (λ (x : List ℕ). IsRepresented h.core.entries x h.kept.tables h.kept.spaces h.kept.grants) (sym by.memory) sound.stands.agrees.represented;
     vectors = subst HasWords (sym by.memory) sound.stands.agrees.vectors;
     base = record { tables = sound.stands.agrees.base.tables; whole = sound.stands.agrees.base.whole };
@@ -221,13 +223,13 @@ module _ (h : Held) (p : ℕ) (rest : List ℕ) (asked : Call) (answer : ℕ) (q
     ranges = (let r = ranges_of h sound.state sound.stands in record { size = r.size; low = r.low; high = r.high; turn = r.turn });
   }
 
-  seated_does : Does Unit h in_seat
+  seated_does : DoesStep Unit h in_seat
   seated_does = call_does h p rest sound ready serving from_user in_seat unowed (told_call h.core.system (page_state h.kept.grants h.bus.memory) p code) outside refl refl (same_pairs h.core.entries) ends
 
   -- The running process's saved registers are meaningless.
 
-  vacant : vacated s.ready (with_process later p behind) ≡ vacated s.ready later
-  vacant = subst (λ (ps : List ℕ). vacated ps (with_process later p behind) ≡ vacated ps later) (sym ready) (with_process_again later p behind no_process)
+  vacant : vacated s.ready (with_process later p afterwards) ≡ vacated s.ready later
+  vacant = subst (λ (ps : List ℕ). vacated ps (with_process later p afterwards) ≡ vacated ps later) (sym ready) (with_process_again later p afterwards no_process)
 
   running_still : (m : State) → RunningIs p in_seat.core in_seat.kept m → RunningIs p owing.core owing.kept m
   running_still m r = record {
@@ -261,11 +263,11 @@ module _ (h : Held) (p : ℕ) (rest : List ℕ) (asked : Call) (answer : ℕ) (q
   still_back : GoesBack h in_seat → GoesBack h owing
   still_back g = record { mode = g.mode; address = g.address; pages = g.pages; devices = g.devices; answered = g.answered; written = g.written; rewritten = g.rewritten }
 
-  still_served : EndsReally h in_seat ⊎ GoesOnReally h in_seat → EndsReally h owing ⊎ GoesOnReally h owing
+  still_served : EndsUnitReally h in_seat ⊎ GoesOnReally h in_seat → EndsUnitReally h owing ⊎ GoesOnReally h owing
   still_served (inl e) = inl (record { owed = e.owed; left = e.left; stops = e.stops })
   still_served (inr g) = inr (record { may = g.may; back = still_back g.back })
 
-  unit_does : Does Unit h owing
+  unit_does : DoesStep Unit h owing
   unit_does =
       let d = seated_does in record {
         follows = record { follows = λ m k. (let t = d.follows.follows m k in (t.0, t.1, unseated t.0 t.2)) };
@@ -275,7 +277,7 @@ module _ (h : Held) (p : ℕ) (rest : List ℕ) (asked : Call) (answer : ℕ) (q
 
   -- The boundary after it.
 
-  boundary_does : h.kept.ticked ≤ s.time → IsQuiet owing.kept → Does Boundary owing closed
+  boundary_does : h.kept.ticked ≤ s.time → IsUndisturbed owing.kept → DoesStep Boundary owing closed
   boundary_does ticked none =
       let same : s.time + 1 ≡ s.time + 1 + 0 = omega arith in record {
         follows = quiet owing refl refl (omega (arith, ticked)) none;
@@ -288,14 +290,14 @@ module _ (h : Held) (p : ℕ) (rest : List ℕ) (asked : Call) (answer : ℕ) (q
         };
       }
 
-  pub sound_then : h.kept.ticked ≤ s.time → IsQuiet owing.kept → IsSound closed
+  pub sound_then : h.kept.ticked ≤ s.time → IsUndisturbed owing.kept → IsSound closed
   sound_then ticked none =
-      sound_behind Boundary owing closed (sound_behind Unit h owing sound unit_does.follows) (boundary_does ticked none).follows
+      sound_after Boundary owing closed (sound_after Unit h owing sound unit_does.follows) (boundary_does ticked none).follows
 
-  pub goes_then : (n : ℕ) → h.kept.ticked ≤ s.time → IsQuiet owing.kept → s.time < n → GoesOn n h closed
+  pub goes_then : (n : ℕ) → h.kept.ticked ≤ s.time → IsUndisturbed owing.kept → s.time < n → GoesOn n h closed
   goes_then n ticked none before =
       let going : held_goes_on n h ≡ true = begins_goes n h sound.state sound.stands (inr (λ nobody. (let no : p ∷ rest ≡ [] = sym ready ∙ nobody in absurd (cc)), before)) in
-      let owing_sound : IsSound owing = sound_behind Unit h owing sound unit_does.follows in
+      let owing_sound : IsSound owing = sound_after Unit h owing sound unit_does.follows in
       goes_join n h owing closed (step_goes Unit n h owing going sound unit_does)
       (step_goes Boundary n owing closed (owed_goes_on n owing refl) owing_sound (boundary_does ticked none))
 
@@ -328,7 +330,7 @@ module _ (h : Held) (p : ℕ) (rest : List ℕ) (asked : Call) (answer : ℕ) (q
 module _ {L : Type 0} (p answer cause epc : ℕ) (asked : Call) (queues consoles : List (List ℕ)) (old new : Parts L) (waits : IsQuietCall p old) (asks : call_of old.core.registers.general ≡ asked)
     (by : Answers (kept_of old.monitor).state p old.core.system.epc asked answer queues consoles old.bus new.bus)
     (commands : IsNonDecreasingBy has_time old.monitor.due.commands) (order : IsNonDecreasingBy comes_at old.monitor.due.characters)
-    (core : new.core ≡ back_on old.core (behind_call old.core answer (process_of (kept_of old.monitor).state p)) cause epc)
+    (core : new.core ≡ back_on old.core (past_call old.core answer (process_of (kept_of old.monitor).state p)) cause epc)
     (kept : kept_of new.monitor ≡ record (kept_of old.monitor) { state = record (with_texts (kept_of old.monitor).state queues consoles) { time = old.monitor.time + 1 } })
     (until : new.monitor.quiet_until ≡ old.monitor.quiet_until) (log : HasLogRoom 1 old.monitor → HasLogRoom 1 new.monitor) (own : own_of new ≡ with_none_spent (own_of old)) where
   abbrev h : Held
@@ -356,7 +358,7 @@ module _ {L : Type 0} (p answer cause epc : ℕ) (asked : Call) (queues consoles
   spent : new.spent ≡ 0
   spent = ap (λ (o : Own). o.spent) own
 
-  none : IsQuiet (owing_of h p answer queues consoles new.bus cause epc).kept
+  none : IsUndisturbed (owing_of h p answer queues consoles new.bus cause epc).kept
   none =
       let n = nothing_due old.monitor (old.monitor.time + 1) (Some (record { began = old.monitor.time; runner = Some p })) commands order good.next waits.early good.orderly.kept in
       record { commands = n.commands; characters = n.characters; asleep = by.asleep good.orderly.kept.lawful.asleep; period = n.period; ends = n.ends }
@@ -373,8 +375,8 @@ module _ {L : Type 0} (p answer cause epc : ℕ) (asked : Call) (queues consoles
   sound : IsSound closed_held
   sound = sound_then h p others asked answer queues consoles new.bus good.sound queue waits.called.served waits.called.left unowed (record { memory = refl; log = refl }) (ready.0, ready.1) ready.2 waits.called.code waits.outside asks by cause epc good.orderly.ticked none
 
-  good_behind : IsGood new
-  good_behind = record {
+  good_after : IsGood new
+  good_after = record {
     sound = subst IsSound (sym is) sound;
     orderly = subst IsOrderly (sym is)
         (orderly_then h p others asked answer queues consoles new.bus good.sound queue waits.called.served waits.called.left unowed (record { memory = refl; log = refl }) (ready.0, ready.1) ready.2 waits.called.code waits.outside asks by cause epc waits.busy.early good.orderly);
@@ -383,15 +385,15 @@ module _ {L : Type 0} (p answer cause epc : ℕ) (asked : Call) (queues consoles
     next = until ∙ (good.next ∙ sym (ap next_due kept));
   }
 
-  goes_behind : (n : ℕ) → old.monitor.time < n → GoesOn n h (held new)
-  goes_behind n before =
+  goes_after : (n : ℕ) → old.monitor.time < n → GoesOn n h (held new)
+  goes_after n before =
       subst (λ (x : Held). GoesOn n h x) (sym is)
       (goes_then h p others asked answer queues consoles new.bus good.sound queue waits.called.served waits.called.left unowed (record { memory = refl; log = refl }) (ready.0, ready.1) ready.2 waits.called.code waits.outside asks by cause epc n good.orderly.ticked none before)
 
   pub is_answered : IsAnswered old new
   is_answered = record {
-    good = good_behind;
-    goes = goes_behind;
+    good = good_after;
+    goes = goes_after;
     unowed = ap (λ (x : Held). x.kept.state.owed) is;
     ready = ap (λ (k : Kept). k.state.ready) kept;
     user = ap (λ (c : CoreState). is_user c.system) core;

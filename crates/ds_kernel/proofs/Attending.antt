@@ -17,14 +17,16 @@ use Rattle.ds_pagemap.specs.Machine.{State, Process, process_of, with_process}
 use Rattle.ds_pagemap.specs.Boundary.{all_queued, woken, rotated, has_passed, boundary}
 use Rattle.ds_pagemap_laws.specs.Due.{come}
 use Rattle.ds_asid.specs.Spaces.{Spaces}
-use Rattle.ds_refinement.specs.Held.{Held, Kept, whole, began_or, last_boundary}
+use Rattle.ds_refinement.specs.Held.{Held, Kept, began_or, last_boundary}
+use Rattle.ds_refinement.specs.Inner.Held.{whole}
 use Rattle.ds_refinement.specs.Units.{user_status, is_general, has_left_user}
-use Rattle.ds_refinement.specs.Stands.{IsSound, RunningBy, OnProcessor, AreResting}
-use Rattle.ds_refinement.specs.Services.{Serves, seated_process, with_first_seated}
+use Rattle.ds_refinement.specs.Stands.{RunningBy, OnProcessor, AreResting}
+use Rattle.ds_refinement.specs.Inner.Stands.{IsSound}
+use Rattle.ds_refinement.specs.Inner.Services.{Serves, seated_process, with_first_seated}
 use Rattle.ds_refinement.proofs.Boundaries.{owed_is, kernel_owes}
-use Rattle.ds_monitor.specs.Commands.{with_ends, commanded}
-use Rattle.ds_kernel.specs.Devices.{typed, emptied, interrupted, TellsReceived}
-use Rattle.ds_kernel.specs.Attended.{to_come, bus_at, read_out, unowed, ruled}
+use Rattle.ds_monitor.specs.Inner.Commands.{with_ends, commanded}
+use Rattle.ds_kernel.specs.Inner.Devices.{typed, emptied, interrupted, TellsReceived}
+use Rattle.ds_kernel.specs.Inner.Attended.{to_come, bus_at, read_out, unowed, ruled}
 use Rattle.ds_kernel.proofs.Characters.{as_received, silo_of, emptied_all, typed_alike, first_typed}
 use Rattle.ds_kernel.proofs.Clocks.{rings_as, passed_since, none_since, time_is}
 use Rattle.ds_kernel.proofs.Sharing.{boundary_ruled}

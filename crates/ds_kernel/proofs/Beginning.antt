@@ -8,13 +8,13 @@ use Rattle.ds_refinement.specs.Held.{Kept, Own}
 use Rattle.ds_refinement.specs.Stands.{Stands}
 use Rattle.ds_refinement.specs.First.{IsFirst}
 use Rattle.ds_refinement.specs.Counts.{HasNone}
-use Rattle.ds_monitor.specs.Kept.{kept_of}
-use Rattle.ds_monitor.specs.Orderly as monitor
+use Rattle.ds_monitor.specs.Inner.Kept.{kept_of}
+use Rattle.ds_monitor.specs.Inner.Orderly as monitor
 use Rattle.ds_kernel.specs.declared.parts.Parts.{Parts}
-use Rattle.ds_kernel.specs.Parts.{held, own_of}
+use Rattle.ds_kernel.specs.Inner.Parts.{held, own_of}
 use Rattle.ds_kernel.proofs.Doing.{fresh_of_none}
-use Rattle.ds_monitor.specs.Coming.{next_due}
-use Rattle.ds_kernel.specs.Good.{IsRate, IsGood}
+use Rattle.ds_monitor.specs.Inner.Coming.{next_due}
+use Rattle.ds_kernel.specs.Inner.Good.{IsRate, IsGood}
 use Rattle.ds_kernel.proofs.Stepping.{none_is_not_some}
 
 pub first_good : {L : Type 0} (p : Parts L) (policy : PolicyValue) (images : List (List ℕ)) (input : InputValue) (start : ℕ) → IsFirst policy images input start (held p)

@@ -7,41 +7,43 @@ use Rattle.ds_cp0.specs.declared.exception.ExceptionCode.{ExceptionCode}
 use Rattle.ds_cp0.specs.declared.exception.Exception.{Exception}
 use Rattle.ds_cp0.specs.declared.exception.ExceptionCode.TheVariants.{SystemCall}
 use Rattle.ds_cp0.specs.System.{System, is_user, entered, pushed}
-use Rattle.ds_ahead.specs.Ahead as ahead
-use Rattle.ds_ahead.specs.Ahead.{Hardware, hardware_of, after_steps, Advances, AdvancesTo, ComesByWords, owed_tick, ticks}
+use Rattle.ds_ahead.specs.Inner.Ahead as ahead
+use Rattle.ds_ahead.specs.Inner.Ahead.{Hardware, hardware_of, after_steps, Advances, AdvancesTo, ComesByWords, owed_tick, ticks}
 use Rattle.ds_dev.specs.Bus.{BusState}
 use Rattle.ds_core.specs.declared.event.Event.TheVariants.{Raised}
-use Rattle.ds_core.specs.Core.{CoreState, Step, is_raised, exception}
+use Rattle.ds_core.specs.Core.{CoreState, Step, exception}
+use Rattle.ds_core.specs.Inner.Core.{is_raised}
 use Rattle.ds_core.proofs.Users.{keeps_system}
 use Rattle.ds_pagemap.specs.declared.turn.Turn.{Turn}
 use Rattle.ds_refinement.specs.Told.{code_in, is_delayed}
 use Rattle.ds_refinement.specs.Held.{Held, Own}
 use Rattle.ds_refinement.specs.Units.{user_status, is_served}
-use Rattle.ds_refinement.specs.Services.{with_one_spent}
+use Rattle.ds_refinement.specs.Inner.Services.{with_one_spent}
 use Rattle.ds_refinement.specs.CourseSteps.{later}
 use Rattle.ds_grants.proofs.OwnFrames.{truth_small}
 use Rattle.ds_refinement.specs.Handling.{IsWhole}
-use Rattle.ds_refinement.specs.Stands.{IsSound}
+use Rattle.ds_refinement.specs.Inner.Stands.{IsSound}
 use Rattle.ds_refinement.specs.Steps.{steps_left}
-use Rattle.ds_refinement.specs.Blocks.{moved, more_counted, counts_behind, time_behind, with_block, with_exception, MayRunAhead}
+use Rattle.ds_refinement.specs.Inner.Blocks.{moved, more_counted, counts_beyond, time_after, with_block, with_exception, MayRunAhead}
 use Rattle.ds_refinement.proofs.Exceptions.{code_told, status_told}
 use Rattle.ds_refinement.proofs.Meets.{barred}
 use Rattle.ds_refinement.proofs.Joined.{path_join, path_sound}
 use Rattle.ds_refinement.proofs.BlockPaths.{counts_few, block_is_path, raised_is_path, block_runs, raised_runs}
 use Rattle.ds_monitor.specs.declared.monitor.Monitor.{Monitor}
-use Rattle.ds_monitor.specs.Room.{HasRoom}
-use Rattle.ds_monitor.specs.Kept.{kept_of}
+use Rattle.ds_monitor.specs.Inner.Room.{HasRoom}
+use Rattle.ds_monitor.specs.Inner.Kept.{kept_of}
 use Rattle.ds_kernel.specs.declared.parts.Parts.{Parts}
-use Rattle.ds_kernel.specs.Parts.{held, own_of, with_counts_of}
-use Rattle.ds_refinement.specs.Counts.{Counts, IsFresh, counts_of, with_counts, one_more}
-use Rattle.ds_monitor.specs.Coming.{next_due}
-use Rattle.ds_kernel.specs.Good.{IsRate, IsGood}
-use Rattle.ds_kernel.specs.AtOnce.{IsCalled}
-use Rattle.ds_kernel.specs.Ran.{HasRun}
+use Rattle.ds_kernel.specs.Inner.Parts.{held, own_of, with_counts_of}
+use Rattle.ds_refinement.specs.Counts.{Counts, counts_of, one_more}
+use Rattle.ds_refinement.specs.Inner.Counts.{IsFresh, with_counts}
+use Rattle.ds_monitor.specs.Inner.Coming.{next_due}
+use Rattle.ds_kernel.specs.Inner.Good.{IsRate, IsGood}
+use Rattle.ds_kernel.specs.Inner.AtOnce.{IsCalled}
+use Rattle.ds_kernel.specs.Inner.Ran.{HasRun}
 use Rattle.ds_kernel.proofs.Doing.{owed_small}
-use Rattle.ds_kernel.specs.Going.{rank, GoesOn}
+use Rattle.ds_kernel.specs.Inner.Going.{rank, GoesOn}
 use Rattle.ds_monitor.proofs.Lawful.{turn_orderly}
-use Rattle.ds_monitor.specs.Orderly as state
+use Rattle.ds_monitor.specs.Inner.Orderly as state
 use Rattle.ds_kernel.proofs.Rooms.{room_later, turn_room}
 use Rattle.ds_kernel.proofs.Called.{call_told}
 use Rattle.ds_kernel.proofs.Stepping.{none_is_not_some}
@@ -79,12 +81,12 @@ more_spent zero c = omega arith
 more_spent (suc n) c = (let before = more_spent n c in omega (arith, before))
 
 -- more instructions, while no time has passed
-counts_more : (n t : ℕ) (slot : Bool) (own : Own) → t ≡ 0 → (counts_behind n t slot own).spent ≡ own.spent + n
+counts_more : (n t : ℕ) (slot : Bool) (own : Own) → t ≡ 0 → (counts_beyond n t slot own).spent ≡ own.spent + n
 counts_more n zero slot own none = more_spent n (counts_of own)
 counts_more n (suc t) slot own none = absurd (omega (arith, none))
 
 -- where nothing but a unit's branch was counted, so it is after the block
-pub whole_counts : (n t before : ℕ) (slot : Bool) (own : Own) → IsFresh own → own.spent ≡ before → t + owed_tick slot ≡ n + before → with_counts own (counts_behind n t slot own) ≡ record own { spent = owed_tick slot }
+pub whole_counts : (n t before : ℕ) (slot : Bool) (own : Own) → IsFresh own → own.spent ≡ before → t + owed_tick slot ≡ n + before → with_counts own (counts_beyond n t slot own) ≡ record own { spent = owed_tick slot }
 whole_counts n (suc t) before slot own fresh is sum = sym (ap (λ (c : Counts). with_counts own (record c { spent = owed_tick slot })) fresh)
 whole_counts zero zero before slot own fresh is sum = ap (λ (s : ℕ). record own { spent = s }) (omega (arith, is, sum))
 whole_counts (suc zero) zero before slot own fresh is sum =
@@ -94,7 +96,7 @@ whole_counts (suc zero) zero before slot own fresh is sum =
 whole_counts (suc (suc n)) zero before slot own fresh is sum = absurd (let small = owed_small slot in omega (arith, small, sum))
 
 -- and with an instruction more
-pub whole_raised : (n t before : ℕ) (slot : Bool) (own : Own) → IsFresh own → own.spent ≡ before → t + owed_tick slot ≡ n + before → with_counts own (one_more (counts_behind n t slot own)) ≡ record own { spent = owed_tick slot + 1 }
+pub whole_raised : (n t before : ℕ) (slot : Bool) (own : Own) → IsFresh own → own.spent ≡ before → t + owed_tick slot ≡ n + before → with_counts own (one_more (counts_beyond n t slot own)) ≡ record own { spent = owed_tick slot + 1 }
 whole_raised n t before slot own fresh is sum =
     ap with_one_spent (whole_counts n t before slot own fresh is sum)
     ∙ (ap (λ (c : Counts). with_counts own (one_more (record c { spent = owed_tick slot }))) fresh
@@ -105,7 +107,7 @@ later_small : (written : List ℕ) (since : ℕ) → later written since ≤ sin
 later_small [] since = omega arith
 later_small (slot ∷ more) since = omega arith
 
-counts_since : (n t : ℕ) (slot : Bool) (own : Own) → own.since < 56 → (t ≡ 0 → n ≤ 1) → (counts_behind n t slot own).since ≤ 56
+counts_since : (n t : ℕ) (slot : Bool) (own : Own) → own.since < 56 → (t ≡ 0 → n ≤ 1) → (counts_beyond n t slot own).since ≤ 56
 counts_since zero zero slot own early one = omega (arith, early)
 counts_since (suc zero) zero slot own early one = (let small = later_small own.written own.since in omega (arith, early, small))
 counts_since (suc (suc n)) zero slot own early one = absurd (let most = one refl in omega (arith, most))
@@ -113,24 +115,24 @@ counts_since n (suc t) slot own early one = omega arith
 
 -- So what is counted after a block leaves room for one more, which its exception takes.
 pub counts_leave_room : (n t : ℕ) (slot : Bool) (own : Own) → (t ≡ 0 → n ≤ 1) → own.spent ≤ 61 → own.since < 56
-    → ((counts_behind n t slot own).spent ≤ 62) × ((counts_behind n t slot own).since ≤ 56)
+    → ((counts_beyond n t slot own).spent ≤ 62) × ((counts_beyond n t slot own).since ≤ 56)
 counts_leave_room n t slot own one few early = (counts_few n t slot own few one, counts_since n t slot own early one)
 
 -- after some steps a unit is begun where the next stands in a slot
-begun_in_slot : (n t : ℕ) (slot : Bool) (own : Own) → (t ≡ 0 → owed_tick slot ≡ 1) → 0 < (counts_behind n t slot own).spent → owed_tick slot ≡ 1
+begun_in_slot : (n t : ℕ) (slot : Bool) (own : Own) → (t ≡ 0 → owed_tick slot ≡ 1) → 0 < (counts_beyond n t slot own).spent → owed_tick slot ≡ 1
 begun_in_slot n zero slot own one some = one refl
 begun_in_slot n (suc t) slot own one some = (let small = owed_small slot in omega (arith, small, some))
 
 -- a unit's branch is all that is counted of it: was a slot left before or not
 counts_fresh : (n t : ℕ) (was slot : Bool) (own : Own) → (own.spent ≤ owed_tick was → IsFresh own) → (t ≡ 0 → n + owed_tick was ≡ owed_tick slot)
-    → (counts_behind n t slot own).spent ≤ owed_tick slot → IsFresh (with_counts own (counts_behind n t slot own))
+    → (counts_beyond n t slot own).spent ≤ owed_tick slot → IsFresh (with_counts own (counts_beyond n t slot own))
 counts_fresh zero zero was slot own fresh sum few = (let same = sum refl in fresh (omega (arith, few, same)))
 counts_fresh (suc zero) zero was slot own fresh sum few = (let same = sum refl in let small = owed_small slot in ap one_more (fresh (omega (arith, few, same, small))))
 counts_fresh (suc (suc n)) zero was slot own fresh sum few = absurd (let same = sum refl in let small = owed_small slot in omega (arith, same, small))
 counts_fresh n (suc t) was slot own fresh sum few = refl
 
 -- after an exception in the first step of a unit, or in its slot, one more is counted
-raised_fresh : (n t limit : ℕ) (was slot : Bool) (own : Own) → (own.spent ≤ owed_tick was → IsFresh own) → limit ≤ 1 → (one_more (counts_behind n t slot own)).spent ≤ limit → IsFresh (with_counts own (one_more (counts_behind n t slot own)))
+raised_fresh : (n t limit : ℕ) (was slot : Bool) (own : Own) → (own.spent ≤ owed_tick was → IsFresh own) → limit ≤ 1 → (one_more (counts_beyond n t slot own)).spent ≤ limit → IsFresh (with_counts own (one_more (counts_beyond n t slot own)))
 raised_fresh zero zero limit was slot own fresh small few = ap one_more (fresh (omega (arith, small, few)))
 raised_fresh (suc n) zero limit was slot own fresh small few = absurd (let more = more_spent n (counts_of own) in omega (arith, small, few, more))
 raised_fresh n (suc t) limit was slot own fresh small few = refl
@@ -204,18 +206,18 @@ module _ {L : Type 0} (limit n : ℕ) (old new : Parts L) (c : CoreState) (b : B
   monitor_is = ap (λ (x : Parts L). x.monitor) rest ∙ ap (λ (t : ℕ). record old.monitor { time = t }) (sym time_is)
 
   -- with these counts of the unit
-  moved_is : (counts : Counts) → own_of new ≡ with_counts (own_of old) counts → passed ≡ ticks n start → held new ≡ moved (held old) hw (time_behind n (held old)) None counts
+  moved_is : (counts : Counts) → own_of new ≡ with_counts (own_of old) counts → passed ≡ ticks n start → held new ≡ moved (held old) hw (time_after n (held old)) None counts
   moved_is counts own time =
       ap (λ (x : Parts L). record { core = x.core; bus = x.bus; kept = kept_of x.monitor; own = own_of new }) rest
       ∙ (ap (λ (o : Own). record { core = c; bus = b; kept = kept_of (record old.monitor { time = old.monitor.time + passed }); own = o }) own
       ∙ (ap (λ (t : ℕ). moved (held old) hw (old.monitor.time + t) old.monitor.owed counts) time
-      ∙ ap (λ (o : Option Turn). moved (held old) hw (time_behind n (held old)) o counts) goes.owed))
+      ∙ ap (λ (o : Option Turn). moved (held old) hw (time_after n (held old)) o counts) goes.owed))
 
   -- no instruction raised an exception
   module _ (within : n ≤ limit) (advances : Advances n start hw) (all : ticks n start + owed_tick c.slot ≡ n + owed_tick old.core.slot) (time : passed ≡ n + owed_tick old.core.slot - owed_tick c.slot)
-      (own : own_of new ≡ with_counts (own_of old) (counts_behind n passed c.slot (own_of old))) where
+      (own : own_of new ≡ with_counts (own_of old) (counts_beyond n passed c.slot (own_of old))) where
     abbrev counts : Counts
-    counts = counts_behind n passed c.slot (own_of old)
+    counts = counts_beyond n passed c.slot (own_of old)
 
     passed_is : passed ≡ ticks n start
     passed_is = omega (arith, all, time)
@@ -227,7 +229,7 @@ module _ {L : Type 0} (limit n : ℕ) (old new : Parts L) (c : CoreState) (b : B
     spent_is = ap (λ (o : Own). o.spent) own
 
     calm_is : held new ≡ with_block n (held old) hw
-    calm_is = moved_is counts own passed_is ∙ ap (λ (t : ℕ). moved (held old) hw (time_behind n (held old)) None (counts_behind n t c.slot (own_of old))) passed_is
+    calm_is = moved_is counts own passed_is ∙ ap (λ (t : ℕ). moved (held old) hw (time_after n (held old)) None (counts_beyond n t c.slot (own_of old))) passed_is
 
     user : is_user new.core.system ≡ true
     user =
@@ -273,7 +275,7 @@ module _ {L : Type 0} (limit n : ℕ) (old new : Parts L) (c : CoreState) (b : B
 
   -- the one after them did
   module _ (code : ExceptionCode) (fewer : n < limit) (leads : AdvancesTo n (Some code) start hw) (whole : IsWhole c) (all : ticks n start + owed_tick (is_delayed c.system) ≡ n + owed_tick old.core.slot)
-      (time : passed ≡ n + owed_tick old.core.slot - owed_tick (is_delayed c.system)) (own : own_of new ≡ with_counts (own_of old) (one_more (counts_behind n passed (is_delayed c.system) (own_of old)))) where
+      (time : passed ≡ n + owed_tick old.core.slot - owed_tick (is_delayed c.system)) (own : own_of new ≡ with_counts (own_of old) (one_more (counts_beyond n passed (is_delayed c.system) (own_of old)))) where
     abbrev delayed : Bool
     delayed = is_delayed c.system
 
@@ -283,7 +285,7 @@ module _ {L : Type 0} (limit n : ℕ) (old new : Parts L) (c : CoreState) (b : B
     ticks_sum : passed + owed_tick delayed ≡ n + owed_tick old.core.slot
     ticks_sum = omega (arith, all, time)
 
-    spent_so : new.spent ≡ (counts_behind n passed delayed (own_of old)).spent + 1
+    spent_so : new.spent ≡ (counts_beyond n passed delayed (own_of old)).spent + 1
     spent_so = ap (λ (o : Own). o.spent) own
 
     within : n ≤ limit
@@ -291,13 +293,13 @@ module _ {L : Type 0} (limit n : ℕ) (old new : Parts L) (c : CoreState) (b : B
 
     raised_is : held new ≡ with_exception n (held old) hw
     raised_is =
-        moved_is (one_more (counts_behind n passed delayed (own_of old))) own passed_so
-        ∙ ap (λ (t : ℕ). moved (held old) hw (time_behind n (held old)) None (one_more (counts_behind n t delayed (own_of old)))) passed_so
+        moved_is (one_more (counts_beyond n passed delayed (own_of old))) own passed_so
+        ∙ ap (λ (t : ℕ). moved (held old) hw (time_after n (held old)) None (one_more (counts_beyond n t delayed (own_of old)))) passed_so
 
     most : new.spent ≤ 63
     most =
         let small : owed_tick delayed ≤ 1 = owed_small delayed in
-        let of : (counts_behind n passed delayed (own_of old)).spent ≤ 62 = counts_few n passed delayed (own_of old) goes.few (λ none. omega (arith, ticks_sum, small, none)) in
+        let of : (counts_beyond n passed delayed (own_of old)).spent ≤ 62 = counts_few n passed delayed (own_of old) goes.few (λ none. omega (arith, ticks_sum, small, none)) in
         omega (arith, of, spent_so)
 
     pub raised_good : IsGood new
@@ -319,7 +321,7 @@ module _ {L : Type 0} (limit n : ℕ) (old new : Parts L) (c : CoreState) (b : B
             within = raised_runs n limit end first (held old) hw code within goes upto leads words whole h.within;
           });
           nearer = nearer end passed (held old) (held new) goes.owed unowed time_is
-              (λ none. let more : (counts_behind n passed delayed (own_of old)).spent ≡ old.spent + n = counts_more n passed delayed (own_of old) none in omega (arith, more, spent_so)) (omega (arith, most)) (omega (arith, upto));
+              (λ none. let more : (counts_beyond n passed delayed (own_of old)).spent ≡ old.spent + n = counts_more n passed delayed (own_of old) none in omega (arith, more, spent_so)) (omega (arith, most)) (omega (arith, upto));
           working = ap (λ (o : Own). o.failed) own;
           begun = λ begun. omega (arith, time_is, ticks_sum, upto);
         }

@@ -9,38 +9,38 @@ use Rattle.ds_pagemap.specs.declared.turn.Turn.{Turn}
 use Rattle.ds_pagemap.specs.Run.{is_over}
 use Rattle.ds_refinement.specs.declared.step.Step.TheVariants.{Boundary}
 use Rattle.ds_refinement.specs.Held.{Held}
-use Rattle.ds_refinement.specs.Stands.{IsSound}
-use Rattle.ds_refinement.specs.Services.{with_boundary, with_idle_turn}
+use Rattle.ds_refinement.specs.Inner.Stands.{IsSound}
+use Rattle.ds_refinement.specs.Inner.Services.{with_boundary, with_idle_turn}
 use Rattle.ds_refinement.specs.Steps.{Moves}
 use Rattle.ds_cp0.specs.System.{is_user}
 use Rattle.ds_refinement.specs.Pairs.{HasNoNewPairs}
-use Rattle.ds_refinement.specs.Quiet.{IsQuiet}
+use Rattle.ds_refinement.specs.Inner.Quiet.{IsUndisturbed}
 use Rattle.ds_refinement.specs.Real.{IsReal}
 use Rattle.ds_refinement.proofs.Boundaries.{quiet, idle, waited_stands}
 use Rattle.ds_refinement.proofs.NoNewPairs.{same_pairs}
 use Rattle.ds_refinement.specs.Counts.{HasNone}
 use Rattle.ds_refinement.proofs.Counting.{boundary_moves, idle_moves}
 use Rattle.ds_refinement.proofs.Attended.{boundary_served, idle_served, served_moves, idle_served_moves}
-use Rattle.ds_monitor.specs.Coming.{first_time, first_due, period_end, next_due}
-use Rattle.ds_monitor.specs.Kept.{kept_of}
-use Rattle.ds_monitor.specs.Orderly as monitor
-use Rattle.ds_monitor.specs.Room.{HasBoundaryRoom, HasTurnRoom}
+use Rattle.ds_monitor.specs.Inner.Coming.{first_time, first_due, period_end, next_due}
+use Rattle.ds_monitor.specs.Inner.Kept.{kept_of}
+use Rattle.ds_monitor.specs.Inner.Orderly as monitor
+use Rattle.ds_monitor.specs.Inner.Room.{HasBoundaryRoom, HasTurnRoom}
 use Rattle.ds_monitor.specs.declared.monitor.Monitor.{Monitor}
 use Rattle.ds_kernel.specs.declared.parts.Parts.{Parts}
-use Rattle.ds_kernel.specs.Parts.{held, own_of}
-use Rattle.ds_kernel.specs.Good.{IsRate, IsOrderly, IsGood}
-use Rattle.ds_kernel.specs.Ended.{Does}
-use Rattle.ds_kernel.specs.Attended.{HasAttended, IsBounded}
+use Rattle.ds_kernel.specs.Inner.Parts.{held, own_of}
+use Rattle.ds_kernel.specs.Inner.Good.{IsRate, IsOrderly, IsGood}
+use Rattle.ds_kernel.specs.Inner.Ended.{DoesStep}
+use Rattle.ds_kernel.specs.Inner.Attended.{HasAttended, IsBounded}
 use Rattle.ds_monitor.proofs.Coming.{none_due}
 use Rattle.ds_monitor.proofs.Lawful.{turn_orderly}
 use Rattle.ds_kernel.proofs.Waiting.{none_passed}
 use Rattle.ds_kernel.proofs.Doing.{enters_user, fresh_of_none, none_of_fresh}
 use Rattle.ds_kernel.proofs.Rooms.{turn_room_still, boundary_room}
-use Rattle.ds_kernel.proofs.Stepping.{none_is_not_some, sound_behind}
+use Rattle.ds_kernel.proofs.Stepping.{none_is_not_some, sound_after}
 
 -- before the time at which something next comes, a boundary has nothing to do
 pub nothing_due : (m : Monitor) (time : ℕ) (owed : Option Turn) → IsNonDecreasingBy has_time m.due.commands → IsNonDecreasingBy comes_at m.due.characters → m.quiet_until ≡ next_due (kept_of m) → time < m.quiet_until → monitor.IsOrderly (kept_of m)
-    → IsQuiet (record (kept_of m) { state = record (kept_of m).state { time = time; owed = owed } })
+    → IsUndisturbed (record (kept_of m) { state = record (kept_of m).state { time = time; owed = owed } })
 nothing_due m time owed commands order next early kept =
     let before : time < next_due (kept_of m) = subst (λ (n : ℕ). time < n) next early in
     let comes : ℕ = min (first_due m.due) (period_end m.rate m.ticked) in
@@ -78,7 +78,7 @@ module _ {L : Type 0} (old : Parts L) (good : IsGood old) (owed : IsSome old.mon
   none_counted : HasNone (own_of old)
   none_counted = none_of_fresh (own_of old) old.core.slot (none_spent old.spent good.orderly.begun) good.orderly.fresh
 
-  quiet_does : IsQuiet h.kept → Does Boundary h (with_boundary h)
+  quiet_does : IsUndisturbed h.kept → DoesStep Boundary h (with_boundary h)
   quiet_does q =
       record {
         follows = quiet h owed none_counted good.orderly.ticked q;
@@ -86,16 +86,16 @@ module _ {L : Type 0} (old : Parts L) (good : IsGood old) (owed : IsSome old.mon
         real = real (with_boundary h) refl (same_pairs h.core.entries);
       }
 
-  pub bounded_does : (new : Held) → IsBounded h new → Does Boundary h new
+  pub bounded_does : (new : Held) → IsBounded h new → DoesStep Boundary h new
   bounded_does new by = elim by [
-    | inl none ↦ subst (Does Boundary h) (sym none.1) (quiet_does none.0)
+    | inl none ↦ subst (DoesStep Boundary h) (sym none.1) (quiet_does none.0)
     | inr ends ↦ record { follows = boundary_served h new owed ends.0; moves = served_moves h new owed ends.1 ends.0; real = real new ends.2 ends.3 }
   ]
 
-  pub quiet_good : IsQuiet h.kept → IsGood (record old { monitor = record old.monitor { owed = None } })
+  pub quiet_good : IsUndisturbed h.kept → IsGood (record old { monitor = record old.monitor { owed = None } })
   quiet_good q =
       let o = good.orderly in record {
-        sound = sound_behind Boundary h (with_boundary h) good.sound (quiet_does q).follows;
+        sound = sound_after Boundary h (with_boundary h) good.sound (quiet_does q).follows;
         orderly = record {
           begun = λ some. refl;
           failed = λ failed. refl;
@@ -125,7 +125,7 @@ module _ {L : Type 0} (old : Parts L) (good : IsGood old) (owed : IsSome old.mon
       let time : new.monitor.time ≡ old.monitor.time = a.time in
       let ticked : new.monitor.ticked ≡ old.monitor.time = a.ticked in
       let early : old.monitor.time ≤ 1000000001 = o.early in record {
-        sound = sound_behind Boundary h (held new) good.sound (boundary_served h (held new) owed a.ends);
+        sound = sound_after Boundary h (held new) good.sound (boundary_served h (held new) owed a.ends);
         orderly = record {
           begun = λ some. moves.0;
           failed = λ failed. moves.0;
@@ -166,7 +166,7 @@ module _ {L : Type 0} (old between waiting : Parts L) (good : IsGood old) (unowe
     pairs = λ all. pairs;
   }
 
-  quiet_idle : IsQuiet (with_idle_turn (held old)).kept → Does Boundary (held old) (with_boundary (with_idle_turn (held old)))
+  quiet_idle : IsUndisturbed (with_idle_turn (held old)).kept → DoesStep Boundary (held old) (with_boundary (with_idle_turn (held old)))
   quiet_idle q =
       record {
         follows = idle (held old) unowed nobody going q;
@@ -174,13 +174,13 @@ module _ {L : Type 0} (old between waiting : Parts L) (good : IsGood old) (unowe
         real = real_idle (with_boundary (with_idle_turn (held old))) refl (same_pairs old.core.entries);
       }
 
-  by_bounded : (new : Held) → IsBounded (with_idle_turn (held old)) new → Does Boundary (held old) new
+  by_bounded : (new : Held) → IsBounded (with_idle_turn (held old)) new → DoesStep Boundary (held old) new
   by_bounded new by = elim by [
-    | inl none ↦ subst (Does Boundary (held old)) (sym none.1) (quiet_idle none.0)
+    | inl none ↦ subst (DoesStep Boundary (held old)) (sym none.1) (quiet_idle none.0)
     | inr ends ↦ record { follows = idle_served (held old) new unowed nobody going ends.0; moves = idle_served_moves (held old) new unowed ends.1 ends.0; real = real_idle new ends.2 ends.3 }
   ]
 
-  pub idle_bounded : (new : Held) → IsBounded (held waiting) new → Does Boundary (held old) new
+  pub idle_bounded : (new : Held) → IsBounded (held waiting) new → DoesStep Boundary (held old) new
   idle_bounded new by = by_bounded new (subst (λ (x : Held). IsBounded x new) waiting_is by)
 
   pub waiting_good : IsGood waiting

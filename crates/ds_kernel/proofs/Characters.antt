@@ -8,7 +8,7 @@ use Rattle.ds_dev.specs.declared.serial.Character.{Character as Received}
 use Rattle.ds_dev.specs.Serial.{SerialState, received}
 use Rattle.ds_policy.specs.declared.command.Character.{Character}
 use Rattle.ds_pagemap.specs.Boundary.{queued, all_queued}
-use Rattle.ds_kernel.specs.Devices.{all_received, typed, lost_behind, emptied}
+use Rattle.ds_kernel.specs.Inner.Devices.{all_received, typed, lost_after, emptied}
 
 -- a character as the silo has it
 abbrev pub as_received : Character → Received
@@ -60,7 +60,7 @@ pub emptied_all : (d : SerialState) (cs : List Character) → d.master_scan ≡ 
     → emptied (all_received d cs) ≡ record d { silo = []; overrun = false }
 emptied_all d [] on few none = ap (λ (b : Bool). record d { silo = []; overrun = b }) (by d.silo d.overrun none)
   where
-    by : (silo : List Received) (lost : Bool) → (silo ≡ [] → lost ≡ false) → lost_behind silo lost ≡ false
+    by : (silo : List Received) (lost : Bool) → (silo ≡ [] → lost ≡ false) → lost_after silo lost ≡ false
     by [] lost none = none refl
     by (c ∷ rest) lost none = refl
 emptied_all d (c ∷ rest) on few none = ap (λ (x : SerialState). emptied (all_received x rest)) (received_one d c on) ∙ by (nat_le 64 (length d.silo)) refl (λ x. emptied_all x rest)

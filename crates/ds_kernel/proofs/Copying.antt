@@ -7,21 +7,24 @@ use Rattle.ds_dev.specs.Bus.{BusState}
 use Rattle.ds_core.specs.Core.{CoreState}
 use Rattle.ds_policy.specs.Grants.{PageState}
 use Rattle.ds_policy.specs.Pages.{entry_at, page_address}
-use Rattle.ds_grants.specs.Counts.{page_of}
-use Rattle.ds_grants.specs.State.{GrantsState, IsAsLarge, page_state}
+use Rattle.ds_grants.specs.Inner.Counts.{page_of}
+use Rattle.ds_grants.specs.State.{GrantsState, page_state}
+use Rattle.ds_grants.specs.Inner.State.{IsAsLarge}
 use Rattle.ds_grants.specs.Sound.{NamesPages}
 use Rattle.ds_grants.specs.Copies.{AreRewritten}
-use Rattle.ds_grants.specs.Represented.{IsRepresented, Keeps}
+use Rattle.ds_grants.specs.Represented.{IsRepresented}
+use Rattle.ds_grants.specs.Inner.Represented.{Keeps}
 use Rattle.ds_refinement.specs.Held.{Own}
-use Rattle.ds_refinement.specs.Counts.{counts_of, with_counts, one_copied}
-use Rattle.ds_refinement.specs.Services.{at_unit, touched_registers, copied_core, IsCopied}
-use Rattle.ds_refinement.specs.Stands.{IsSound}
+use Rattle.ds_refinement.specs.Counts.{counts_of, one_copied}
+use Rattle.ds_refinement.specs.Inner.Counts.{with_counts}
+use Rattle.ds_refinement.specs.Inner.Services.{at_unit, touched_registers, copied_core, IsCopied}
+use Rattle.ds_refinement.specs.Inner.Stands.{IsSound}
 use Rattle.ds_monitor.specs.declared.monitor.Monitor.{Monitor}
-use Rattle.ds_monitor.specs.Kept.{kept_of}
-use Rattle.ds_monitor.specs.Orderly as monitor
+use Rattle.ds_monitor.specs.Inner.Kept.{kept_of}
+use Rattle.ds_monitor.specs.Inner.Orderly as monitor
 use Rattle.ds_monitor.proofs.Lawful.{lying_orderly}
 use Rattle.ds_kernel.specs.declared.parts.Parts.{Parts}
-use Rattle.ds_kernel.specs.Parts.{held, own_of, with_counts_of}
+use Rattle.ds_kernel.specs.Inner.Parts.{held, own_of, with_counts_of}
 
 -- Other grants, memory and entries; then the count; then the way back.
 module _ {L : Type 0} (p : ℕ) (old lies counted new : Parts L)

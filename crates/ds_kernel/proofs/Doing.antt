@@ -6,7 +6,7 @@ use Rattle.ds_isa.specs.declared.instr.Kind.{Kind}
 use Rattle.ds_isa.specs.declared.instr.Kind.TheVariants.{Fetch, Load, Store}
 use Rattle.ds_isa.specs.Access.{is_aligned}
 use Rattle.ds_cp0.specs.System.{is_user}
-use Rattle.ds_ahead.specs.Ahead.{owed_tick}
+use Rattle.ds_ahead.specs.Inner.Ahead.{owed_tick}
 use Rattle.ds_policy.specs.declared.access.Access.{Access}
 use Rattle.ds_policy.specs.declared.access.Rule.{Rule}
 use Rattle.ds_policy.specs.declared.access.Rule.TheVariants.{K, A}
@@ -27,14 +27,16 @@ use Rattle.ds_refinement.specs.declared.cause.Cause.TheVariants as cause
 use Rattle.ds_refinement.specs.declared.step.Step.TheVariants.{Inside, Unit}
 use Rattle.ds_refinement.specs.Held.{Held, Kept, Own}
 use Rattle.ds_grants.specs.State.{GrantsState}
-use Rattle.ds_refinement.specs.Counts.{Counts, HasNone, IsFresh, fresh, counts_of, one_served}
+use Rattle.ds_refinement.specs.Counts.{Counts, HasNone, fresh_counts, counts_of, one_served}
+use Rattle.ds_refinement.specs.Inner.Counts.{IsFresh}
 use Rattle.ds_refinement.specs.Told.{told, is_delayed, own_in}
 use Rattle.ds_refinement.specs.Units.{InService, ends_in_stop, ends_in_call, user_status, is_general, is_served, has_left_user, EndsUnit}
-use Rattle.ds_refinement.specs.Stands.{IsSound, InKernel}
-use Rattle.ds_refinement.specs.Ends.{EndsInStop, EndsInCall}
+use Rattle.ds_refinement.specs.Stands.{InKernel}
+use Rattle.ds_refinement.specs.Inner.Stands.{IsSound}
+use Rattle.ds_refinement.specs.Inner.Ends.{EndsInStop, EndsInCall}
 use Rattle.ds_refinement.specs.Pairs.{HasNoNewPairs}
 use Rattle.ds_refinement.specs.Copying.{AwaitsCopy, InCopy}
-use Rattle.ds_refinement.specs.Services.{EntersBy, table_entry, with_table_page, with_none_spent, IsCopied}
+use Rattle.ds_refinement.specs.Inner.Services.{EntersBy, table_entry, with_table_page, with_none_spent, IsCopied}
 use Rattle.ds_refinement.specs.Steps.{Follows, Moves, ticks_of}
 use Rattle.ds_refinement.proofs.Ending.{served_parts, served_kernel, waiting_ends, denied_ends, fault_ends, slot_ends, call_ends}
 use Rattle.ds_refinement.proofs.Counting.{stop_moves, call_moves, back_moves}
@@ -43,16 +45,16 @@ use Rattle.ds_refinement.proofs.WaysBack.{double_page, double_follows, double_go
 use Rattle.ds_refinement.proofs.Copied.{copy_follows, copy_room, copy_goes}
 use Rattle.ds_refinement.proofs.Joined.{end_real, double_real, copy_real, never_both}
 use Rattle.ds_policy.specs.Value.{InputValue}
-use Rattle.ds_monitor.specs.Room.{HasBoundaryRoom, HasTurnRoom}
-use Rattle.ds_kernel.proofs.Rooms.{boundary_room_behind}
+use Rattle.ds_monitor.specs.Inner.Room.{HasBoundaryRoom, HasTurnRoom}
+use Rattle.ds_kernel.proofs.Rooms.{boundary_room_after}
 use Rattle.ds_monitor.specs.declared.monitor.Monitor.{Monitor}
 use Rattle.ds_kernel.specs.declared.parts.Parts.{Parts}
-use Rattle.ds_kernel.specs.Parts.{held, own_of}
-use Rattle.ds_monitor.specs.Coming.{next_due}
-use Rattle.ds_monitor.specs.Kept.{kept_of}
-use Rattle.ds_monitor.specs.Orderly as monitor
-use Rattle.ds_kernel.specs.Good.{IsRate, IsOrderly, IsGood, IsBusy}
-use Rattle.ds_kernel.specs.Ended.{HasEnded, Does}
+use Rattle.ds_kernel.specs.Inner.Parts.{held, own_of}
+use Rattle.ds_monitor.specs.Inner.Coming.{next_due}
+use Rattle.ds_monitor.specs.Inner.Kept.{kept_of}
+use Rattle.ds_monitor.specs.Inner.Orderly as monitor
+use Rattle.ds_kernel.specs.Inner.Good.{IsRate, IsOrderly, IsGood, IsBusy}
+use Rattle.ds_kernel.specs.Inner.Ended.{HasEnded, DoesStep}
 use Rattle.ds_kernel.proofs.Keeping.{first_rest}
 
 -- where the monitor is to serve, the processor is in kernel mode
@@ -86,13 +88,13 @@ module _ (h : Held) (p : ℕ) (rest : List ℕ) (sound : IsSound h) (ready : h.k
 
   pub stop_does : has_left_user h.core ≡ true → (new : Held) (why : Cause) (stop : Stop) → h.kept.state.owed ≡ None → told h.core.system kept_pages p ≡ why
       → EndsUnit kept_pages p h.core.system.bad_vaddr why → new.own ≡ with_none_spent h.own → new.core.random ≡ h.core.random → HasNoNewPairs h.core.entries new.core.entries
-      → EndsInStop p stop h new → Follows Unit h new → Does Unit h new
+      → EndsInStop p stop h new → Follows Unit h new → DoesStep Unit h new
   stop_does left new why stop owed is ends own random pairs by follows =
       let moves : Moves Unit h new = stop_moves p stop h new owed (outside_slot left) own by in
       record { follows = follows; moves = moves; real = end_real h new p rest why ready served left is ends moves.1 random pairs }
 
   pub call_does : has_left_user h.core ≡ true → (new : Held) → h.kept.state.owed ≡ None → told h.core.system kept_pages p ≡ cause.Call → is_delayed h.core.system ≡ false
-      → new.own ≡ with_none_spent h.own → new.core.random ≡ h.core.random → HasNoNewPairs h.core.entries new.core.entries → EndsInCall p h new → Does Unit h new
+      → new.own ≡ with_none_spent h.own → new.core.random ≡ h.core.random → HasNoNewPairs h.core.entries new.core.entries → EndsInCall p h new → DoesStep Unit h new
   call_does left new owed is outside own random pairs by =
       let moves : Moves Unit h new = call_moves p h new owed (outside_slot left) own by in
       record { follows = call_ends h new p rest ready served left is outside by; moves = moves; real = end_real h new p rest cause.Call ready served left is tt moves.1 random pairs }
@@ -107,7 +109,7 @@ module _ (h : Held) (p : ℕ) (rest : List ℕ) (sound : IsSound h) (ready : h.k
   ]
 
   -- and once its page has a frame of its own, the unit begins again
-  pub copied_does : (new : Held) → has_left_user h.core ≡ true → h.kept.state.owed ≡ None → h.own.spent ≤ 64 → AwaitsCopy h.core.system h.kept.grants p → IsCopied p h new → Does Inside h new
+  pub copied_does : (new : Held) → has_left_user h.core ≡ true → h.kept.state.owed ≡ None → h.own.spent ≤ 64 → AwaitsCopy h.core.system h.kept.grants p → IsCopied p h new → DoesStep Inside h new
   copied_does new left owed few waits copied =
       let counts : counts_of new.own ≡ one_served (has_left_user h.core) (counts_of h.own) =
       ap counts_of copied.own ∙ ap (λ (b : Bool). one_served b (counts_of h.own)) (sym left) in record {
@@ -120,7 +122,7 @@ module _ (h : Held) (p : ℕ) (rest : List ℕ) (sound : IsSound h) (ready : h.k
   pub page_above : has_left_user h.core ≡ false → 0xC0000 ≤ bits h.core.system.entry_hi 12 20
   page_above left = double_page h sound (some_ready h.kept.state.ready p rest ready) served left
 
-  pub double_does : has_left_user h.core ≡ false → h.kept.state.owed ≡ None → h.own.spent ≤ 64 → Does Inside h (with_table_page h p)
+  pub double_does : has_left_user h.core ≡ false → h.kept.state.owed ≡ None → h.own.spent ≤ 64 → DoesStep Inside h (with_table_page h p)
   double_does left owed few =
       let above : 0xC0000 ≤ bits h.core.system.entry_hi 12 20 = page_above left in
       let new : Held = with_table_page h p in record {
@@ -137,11 +139,11 @@ owed_small true = omega arith
 owed_small false = omega arith
 
 pub none_of_fresh : (own : Own) (slot : Bool) → own.spent ≡ 0 → (own.spent ≤ owed_tick slot → IsFresh own) → HasNone own
-none_of_fresh own slot zero f = f (omega (arith, zero)) ∙ ap (λ (n : ℕ). record (fresh own.wired) { spent = n }) zero
+none_of_fresh own slot zero f = f (omega (arith, zero)) ∙ ap (λ (n : ℕ). record (fresh_counts own.wired) { spent = n }) zero
 
 -- where no unit has begun, nothing but instructions is counted
 pub fresh_of_none : (own : Own) → HasNone own → IsFresh own
-fresh_of_none own none = none ∙ ap (λ (n : Counts). record (fresh own.wired) { spent = n.spent }) (sym none)
+fresh_of_none own none = none ∙ ap (λ (n : Counts). record (fresh_counts own.wired) { spent = n.spent }) (sym none)
 
 pub enters_user : (queue : List ℕ) (c : CoreState) (k : Kept) → EntersBy queue c k → c.system.status ≡ user_status
 enters_user [] c k b = b
@@ -155,11 +157,11 @@ pub two_ticks : (b : Bool) → ticks_of b ≤ 2
 two_ticks true = omega arith
 two_ticks false = omega arith
 
-sound_behind : (h new : Held) → IsSound h → Follows Unit h new → IsSound new
-sound_behind h new s f = let t = f.follows s.state s.stands in record { state = t.0; stands = t.2 }
+sound_after : (h new : Held) → IsSound h → Follows Unit h new → IsSound new
+sound_after h new s f = let t = f.follows s.state s.stands in record { state = t.0; stands = t.2 }
 
 -- the station is as it should be after the end of a unit
-pub ended_good : {L : Type 0} (f : State → State) (p : ℕ) (old new : Parts L) → IsBusy p old → HasEnded f old new → Does Unit (held old) (held new) → IsGood new
+pub ended_good : {L : Type 0} (f : State → State) (p : ℕ) (old new : Parts L) → IsBusy p old → HasEnded f old new → DoesStep Unit (held old) (held new) → IsGood new
 ended_good f p old new busy ended does =
     let none : new.spent ≡ 0 = does.moves.3 in
     let same : new.failed ≡ old.failed = does.moves.4 in
@@ -173,7 +175,7 @@ ended_good f p old new busy ended does =
     let lines : new.monitor.lines ≤ old.monitor.lines + 1 = ended.lines in
     let late : old.monitor.ticked ≤ old.monitor.time = busy.good.orderly.ticked in
     let ticked : new.monitor.ticked ≡ old.monitor.ticked = ended.ticked in record {
-      sound = sound_behind (held old) (held new) busy.good.sound does.follows;
+      sound = sound_after (held old) (held new) busy.good.sound does.follows;
       orderly = record {
         begun = λ some. absurd (omega (arith, none, some));
         failed = λ is. (let no : false ≡ true = sym busy.working ∙ (sym same ∙ is) in absurd (cc));
@@ -188,7 +190,7 @@ ended_good f p old new busy ended does =
         rate = subst IsRate (sym ended.rate) busy.good.orderly.rate;
       };
       room = λ some. absurd (omega (arith, none, some));
-      owed = λ some. boundary_room_behind old.monitor new.monitor (omega (arith, time, most)) ended.due ended.room (busy.good.room busy.begun);
+      owed = λ some. boundary_room_after old.monitor new.monitor (omega (arith, time, most)) ended.due ended.room (busy.good.room busy.begun);
       next = ended.until ∙ (busy.good.next ∙ sym ended.next);
     }
 
@@ -202,7 +204,7 @@ module _ {L : Type 0} (p : ℕ) (old new : Parts L) (busy : IsBusy p old) (serve
 
   pub denied_step : has_left_user old.core ≡ true → (access : Access) (rule : Rule) (code : ℕ) → tells (cause.Access access) → decide old.monitor.grants.table p access.kind access.size old.core.system.bad_vaddr ≡ Denied rule code
       → HasEnded (ends_in_stop p old.core.system.epc (own_in old.core.system) (record { kind = denied_as access.kind; address = old.core.system.bad_vaddr; rule = rule; code = code })) old new
-      → Does Unit (held old) (held new)
+      → DoesStep Unit (held old) (held new)
   denied_step left access rule code is denied ended =
       let r = first_rest old.monitor.ready p busy.first in
       let stop : Stop = record { kind = denied_as access.kind; address = old.core.system.bad_vaddr; rule = rule; code = code } in
@@ -211,7 +213,7 @@ module _ {L : Type 0} (p : ℕ) (old new : Parts L) (busy : IsBusy p old) (serve
 
   pub fault_step : has_left_user old.core ≡ true → (code : ℕ) → tells (cause.Fault code)
       → HasEnded (ends_in_stop p old.core.system.epc (own_in old.core.system) (fault (own_in old.core.system) code)) old new
-      → Does Unit (held old) (held new)
+      → DoesStep Unit (held old) (held new)
   fault_step left code is ended =
       let r = first_rest old.monitor.ready p busy.first in
       stop_does (held old) p r.0 busy.good.sound r.1 served left (held new) (cause.Fault code) (fault (own_in old.core.system) code) unowed is tt ended.own ended.random ended.pairs ended.ends
@@ -219,13 +221,13 @@ module _ {L : Type 0} (p : ℕ) (old new : Parts L) (busy : IsBusy p old) (serve
 
   pub slot_step : has_left_user old.core ≡ true → tells cause.Call → is_delayed old.core.system ≡ true
       → HasEnded (ends_in_stop p old.core.system.epc (own_in old.core.system) (fault (own_in old.core.system) 8)) old new
-      → Does Unit (held old) (held new)
+      → DoesStep Unit (held old) (held new)
   slot_step left is delayed ended =
       let r = first_rest old.monitor.ready p busy.first in
       stop_does (held old) p r.0 busy.good.sound r.1 served left (held new) cause.Call (fault (own_in old.core.system) 8) unowed is tt ended.own ended.random ended.pairs ended.ends
       (slot_ends (held old) (held new) p r.0 r.1 served left is delayed ended.ends)
 
-  pub call_step : has_left_user old.core ≡ true → tells cause.Call → is_delayed old.core.system ≡ false → HasEnded (ends_in_call p old.core.system.epc) old new → Does Unit (held old) (held new)
+  pub call_step : has_left_user old.core ≡ true → tells cause.Call → is_delayed old.core.system ≡ false → HasEnded (ends_in_call p old.core.system.epc) old new → DoesStep Unit (held old) (held new)
   call_step left is outside ended =
       let r = first_rest old.monitor.ready p busy.first in
       call_does (held old) p r.0 busy.good.sound r.1 served left (held new) unowed is outside ended.own ended.random ended.pairs ended.ends
@@ -237,7 +239,7 @@ module _ {L : Type 0} (p : ℕ) (old new : Parts L) (busy : IsBusy p old) (serve
       let r = first_rest old.monitor.ready p busy.first in
       allowed_awaits (held old) p r.0 busy.good.sound r.1 served left access page offset asked decides
 
-  pub copy_step : has_left_user old.core ≡ true → AwaitsCopy old.core.system old.monitor.grants p → IsCopied p (held old) (held new) → Does Inside (held old) (held new)
+  pub copy_step : has_left_user old.core ≡ true → AwaitsCopy old.core.system old.monitor.grants p → IsCopied p (held old) (held new) → DoesStep Inside (held old) (held new)
   copy_step left waits copied =
       let r = first_rest old.monitor.ready p busy.first in
       copied_does (held old) p r.0 busy.good.sound r.1 served (held new) left unowed busy.good.orderly.spent waits copied
@@ -248,10 +250,10 @@ module _ {L : Type 0} (p : ℕ) (old new : Parts L) (busy : IsBusy p old) (serve
       copy_room (held old) p r.0 busy.good.sound r.1 served left waits
 
   -- the unit begins again after a double miss
-  pub double_step : has_left_user old.core ≡ false → held new ≡ with_table_page (held old) p → Does Inside (held old) (held new)
+  pub double_step : has_left_user old.core ≡ false → held new ≡ with_table_page (held old) p → DoesStep Inside (held old) (held new)
   double_step left is =
       let r = first_rest old.monitor.ready p busy.first in
-      subst (λ (x : Held). Does Inside (held old) x) (sym is)
+      subst (λ (x : Held). DoesStep Inside (held old) x) (sym is)
       (double_does (held old) p r.0 busy.good.sound r.1 served left unowed busy.good.orderly.spent)
 
   pub table_page_above : has_left_user old.core ≡ false → 0xC0000 ≤ bits old.core.system.entry_hi 12 20
@@ -261,7 +263,7 @@ module _ {L : Type 0} (p : ℕ) (old new : Parts L) (busy : IsBusy p old) (serve
 
 -- the station is as it should be where the unit goes on in user mode
 pub back_good : {L : Type 0} (p : ℕ) (old new : Parts L) (g : GrantsState) → IsBusy p old → new.core.slot ≡ false → new.monitor ≡ record old.monitor { grants = g } → monitor.IsOrderly (record (kept_of old.monitor) { grants = g }) → new.spent ≡ old.spent → new.failed ≡ old.failed
-    → is_user new.core.system ≡ true → Does Inside (held old) (held new) → IsGood new
+    → is_user new.core.system ≡ true → DoesStep Inside (held old) (held new) → IsGood new
 back_good p old new g busy first monitor orderly spent failed user does =
     let o = busy.good.orderly in
     let begun : 0 < old.spent = busy.begun in

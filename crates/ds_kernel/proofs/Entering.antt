@@ -9,9 +9,9 @@ use Rattle.ds_pagemap_laws.specs.Lawful.{IsReady}
 use Rattle.ds_refinement.specs.Held.{Kept, space_of}
 use Rattle.ds_refinement.specs.Handling.{IsSet}
 use Rattle.ds_refinement.specs.Pairs.{HasNoNewPairs}
-use Rattle.ds_refinement.specs.Services.{Enters, EntersBy}
+use Rattle.ds_refinement.specs.Inner.Services.{Enters, EntersBy}
 use Rattle.ds_refinement.proofs.NoNewPairs.{same_pairs, flushed_pairs}
-use Rattle.ds_kernel.specs.Seats.{in_space, on_processor}
+use Rattle.ds_kernel.specs.Inner.Seats.{in_space, on_processor}
 
 -- no pair is new where a number is handed out
 pub takes_pairs : {old new : List Entry} (slots next : ℕ) → new ≡ (if nat_lt next 64 then old else empty_entries slots) → HasNoNewPairs old new

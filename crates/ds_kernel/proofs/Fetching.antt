@@ -21,7 +21,7 @@ use Rattle.ds_grants.specs.Sound.{NamesPages}
 use Rattle.ds_refinement.specs.Told.{size_on, size_at}
 use Rattle.ds_refinement.proofs.Frames.{word_of_page}
 use Rattle.ds_refinement.proofs.Lookups.{named_page_lives}
-use Rattle.ds_kernel.specs.Places.{place_by, place_of}
+use Rattle.ds_kernel.specs.Inner.Places.{place_by, place_in_memory}
 
 allowed_option : (named : Option ℕ) (o page offset : ℕ) → allowed_on named o ≡ Allowed page offset → (named ≡ Some page) × (offset ≡ o)
 allowed_option None o page offset is = absurd cc
@@ -73,11 +73,11 @@ size_by g memory p address names large (Allowed page offset) is =
     ap (λ (w : ℕ). unwrap_or (access_size (instruction_of w)) Word) (sym (word_of_page g memory page offset on.lives on.low names large (omega arith)))
 
 -- the size that an instruction asks for is told by its word in memory
-pub size_by_place : (g : GrantsState) (memory : List ℕ) (p address : ℕ) → NamesPages g → length memory ≡ 2 ^ 23 → size_at (page_state g memory) p address ≡ size_in memory (place_of g p address)
+pub size_by_place : (g : GrantsState) (memory : List ℕ) (p address : ℕ) → NamesPages g → length memory ≡ 2 ^ 23 → size_at (page_state g memory) p address ≡ size_in memory (place_in_memory g p address)
 size_by_place g memory p address names large = size_by g memory p address names large (decide g.table p Fetch Word address) refl
 
 -- which is what is answered where the place is known
-pub size_found : (g : GrantsState) (memory : List ℕ) (p address place : ℕ) (instr : Instr) (size : Option Size) (answer : Size) → NamesPages g → length memory ≡ 2 ^ 23 → place_of g p address ≡ Some place
+pub size_found : (g : GrantsState) (memory : List ℕ) (p address place : ℕ) (instr : Instr) (size : Option Size) (answer : Size) → NamesPages g → length memory ≡ 2 ^ 23 → place_in_memory g p address ≡ Some place
     → instr ≡ instruction_of (word_at memory place) → size ≡ access_size instr → answer ≡ unwrap_or size Word → answer ≡ size_at (page_state g memory) p address
 size_found g memory p address place instr size answer names large at i s a =
     a ∙ ap (λ (o : Option Size). unwrap_or o Word) (s ∙ ap access_size i) ∙ sym (size_by_place g memory p address names large ∙ ap (size_in memory) at)

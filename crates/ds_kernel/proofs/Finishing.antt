@@ -8,7 +8,8 @@ use Rattle.ds_dev.specs.Serial.{SerialState}
 use Rattle.ds_dev.specs.Clock.{ClockState}
 use Rattle.ds_dev.specs.Bus.{BusState}
 use Rattle.ds_asid.specs.Spaces.{Spaces}
-use Rattle.ds_grants.specs.Represented.{IsRepresented, Keeps}
+use Rattle.ds_grants.specs.Represented.{IsRepresented}
+use Rattle.ds_grants.specs.Inner.Represented.{Keeps}
 use Rattle.ds_grants.specs.Sound.{NamesPages}
 use Rattle.ds_pagemap.specs.declared.turn.Turn.{Turn}
 use Rattle.ds_pagemap.specs.Boundary.{has_passed}
@@ -19,23 +20,24 @@ use Rattle.ds_refinement.specs.Told.{own_in}
 use Rattle.ds_refinement.specs.Units.{ends_in_stop, ends_in_call}
 use Rattle.ds_refinement.specs.Handling.{HasBase}
 use Rattle.ds_refinement.specs.Pairs.{HasNoNewPairs}
-use Rattle.ds_refinement.specs.Stands.{AreResting, IsSound}
-use Rattle.ds_refinement.specs.Services.{Serves, EntersBy, seated, with_none_spent}
+use Rattle.ds_refinement.specs.Stands.{AreResting}
+use Rattle.ds_refinement.specs.Inner.Stands.{IsSound}
+use Rattle.ds_refinement.specs.Inner.Services.{Serves, EntersBy, seated, with_none_spent}
 use Rattle.ds_monitor.specs.declared.monitor.Monitor.{Monitor}
-use Rattle.ds_monitor.specs.Coming.{next_due}
-use Rattle.ds_monitor.specs.Kept.{kept_of}
-use Rattle.ds_monitor.specs.Orderly as monitor
-use Rattle.ds_monitor.specs.Room.{HasLogRoom}
-use Rattle.ds_monitor.specs.Sending.{with_sent, bus_behind}
+use Rattle.ds_monitor.specs.Inner.Coming.{next_due}
+use Rattle.ds_monitor.specs.Inner.Kept.{kept_of}
+use Rattle.ds_monitor.specs.Inner.Orderly as monitor
+use Rattle.ds_monitor.specs.Inner.Room.{HasLogRoom}
+use Rattle.ds_monitor.specs.Inner.Sending.{with_sent, bus_after}
 use Rattle.ds_procs.specs.declared.call.Call.{Call}
 use Rattle.ds_procs.specs.declared.call.Call.TheVariants as call
 use Rattle.ds_kernel.specs.declared.parts.Parts.{Parts}
-use Rattle.ds_kernel.specs.Parts.{held, own_of}
+use Rattle.ds_kernel.specs.Inner.Parts.{held, own_of}
 use Rattle.ds_refinement.specs.Handling.{IsWhole}
 use Rattle.ds_core.specs.Core.{CoreState}
 use Rattle.ds_refinement.specs.Counts.{HasNone, HasRanges, counts_of}
 use Rattle.ds_refinement.proofs.Tallied.{ranges_of}
-use Rattle.ds_kernel.specs.Ended.{HasEnded}
+use Rattle.ds_kernel.specs.Inner.Ended.{HasEnded}
 use Rattle.ds_refinement.proofs.NoNewPairs.{same_pairs, joined_pairs}
 use Rattle.ds_refinement.proofs.Vectors.{vectors_first}
 use Rattle.ds_kernel.proofs.Keeping.{lawful_elsewhere}
@@ -57,8 +59,8 @@ pub none_counted : (old new : Own) → new ≡ with_none_spent old → HasNone n
 none_counted old new is = subst HasNone (sym is) refl
 
 -- and the buffer has its ranges
-pub ranges_behind : (h : Held) (c : CoreState) (own : Own) → IsSound h → IsWhole c → own ≡ with_none_spent h.own → HasRanges c (counts_of own)
-ranges_behind h c own sound whole is =
+pub ranges_after : (h : Held) (c : CoreState) (own : Own) → IsSound h → IsWhole c → own ≡ with_none_spent h.own → HasRanges c (counts_of own)
+ranges_after h c own sound whole is =
     subst (λ (o : Own). HasRanges c (counts_of o)) (sym is)
     (record { size = whole.slots; low = whole.low; high = whole.high; turn = (ranges_of h sound.state sound.stands).turn })
 
@@ -98,7 +100,7 @@ pub memory_rests : (b : BusState) (memory : List ℕ) (k : Kept) → AreResting 
 memory_rests b memory k r = record { serial = r.serial; clock = r.clock; system = r.system; ticked = r.ticked; period = r.period }
 
 -- and so they do after each call
-pub call_rests : (c : Call) (b : BusState) (line : ℕ) (k : Kept) → AreResting b k → AreResting (bus_behind c line b) k
+pub call_rests : (c : Call) (b : BusState) (line : ℕ) (k : Kept) → AreResting b k → AreResting (bus_after c line b) k
 call_rests call.Exit b line k r = r
 call_rests (call.Put byte) b line k r = sent_rests b line k r
 call_rests call.Get b line k r = r
@@ -174,7 +176,7 @@ module _ {L : Type 0} (f : State → State) (old new : Parts L) (between : Monit
           (ap (λ (m : Monitor). m.owed) b.monitor ∙ a.owed)
           sound.stands.agrees.devices);
       none = none_counted (own_of old) (own_of new) b.own;
-      ranges = ranges_behind (held old) new.core (own_of new) sound b.whole b.own;
+      ranges = ranges_after (held old) new.core (own_of new) sound b.whole b.own;
     };
     own = b.own;
     random = b.random;

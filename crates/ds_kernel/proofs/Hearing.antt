@@ -5,15 +5,16 @@ use Rattle.std.proofs.lemmas.Bool.Decides.{nat_tests}
 use Rattle.ds_dev.specs.declared.serial.Character.{Character as Received}
 use Rattle.ds_dev.specs.Serial.{SerialState, has_received, received}
 use Rattle.ds_dev.specs.Clock.{clock_requests}
-use Rattle.ds_dev.specs.Bus.{BusState, with_serial, is_enabled, asks}
+use Rattle.ds_dev.specs.Bus.{BusState, with_serial, is_enabled}
+use Rattle.ds_dev.specs.Inner.Bus.{asks}
 use Rattle.ds_policy.specs.declared.command.Character.{Character}
 use Rattle.ds_pagemap.specs.Machine.{State, made_ready}
 use Rattle.ds_pagemap.specs.Boundary.{woken}
 use Rattle.ds_pagemap_laws.specs.Due.{NobodyWakes, come}
 use Rattle.ds_refinement.specs.Held.{Kept}
-use Rattle.ds_monitor.specs.Kept.{kept_after}
-use Rattle.ds_kernel.specs.Devices.{TellsReceived, all_received, typed, emptied, lost_behind}
-use Rattle.ds_kernel.specs.Attended.{heard, bus_at}
+use Rattle.ds_monitor.specs.Inner.Kept.{kept_after}
+use Rattle.ds_kernel.specs.Inner.Devices.{TellsReceived, all_received, typed, emptied, lost_after}
+use Rattle.ds_kernel.specs.Inner.Attended.{heard, bus_at}
 
 no_items : {X : Type 0} (xs : List X) → nat_lt 0 (length xs) ≡ false → xs ≡ []
 no_items [] e = refl
@@ -41,7 +42,7 @@ quiet_kept k silo none asleep =
 pub quiet_bus : (b : BusState) → b.serial.silo ≡ [] → b ≡ with_serial b (emptied b.serial)
 quiet_bus b none =
     ap (λ (xs : List Received). with_serial b (record b.serial { silo = xs })) none
-    ∙ ap (λ (xs : List Received). with_serial b (record b.serial { silo = []; overrun = lost_behind xs b.serial.overrun })) (sym none)
+    ∙ ap (λ (xs : List Received). with_serial b (record b.serial { silo = []; overrun = lost_after xs b.serial.overrun })) (sym none)
 
 -- a character that comes in changes no setting
 one_received : (d : SerialState) (line byte : ℕ) → (received d line byte).1.receiver_interrupts ≡ d.receiver_interrupts

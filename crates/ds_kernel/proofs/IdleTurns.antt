@@ -22,7 +22,8 @@ use Rattle.ds_pagemap_laws.proofs.Processes.{wakes_settles}
 use Rattle.ds_pagemap_laws.proofs.Boundaries.{quiet_boundary}
 use Rattle.ds_refinement.specs.declared.step.Step.TheVariants.{Boundary}
 use Rattle.ds_refinement.specs.Held.{Held, Kept, bare, vacated, began_or, last_boundary}
-use Rattle.ds_refinement.specs.Stands.{RunningBy, Agrees, CountedBy, Stands, IsSound}
+use Rattle.ds_refinement.specs.Stands.{RunningBy, Agrees, CountedBy, Stands}
+use Rattle.ds_refinement.specs.Inner.Stands.{IsSound}
 use Rattle.ds_refinement.specs.Steps.{Comes}
 use Rattle.ds_refinement.specs.Real.{IsReal}
 use Rattle.ds_refinement.specs.Runs.{held_goes_on}
@@ -30,21 +31,21 @@ use Rattle.ds_refinement.proofs.Ending.{half_unit}
 use Rattle.ds_refinement.proofs.Boundaries.{beside, kept_later, half_boundary, owed_is, unit_rests, over_too, waited, resting_tallied}
 use Rattle.ds_refinement.proofs.NoNewPairs.{same_pairs}
 use Rattle.ds_refinement.proofs.Quieter.{expired_earlier}
-use Rattle.ds_monitor.specs.Coming.{first_time, first_event, next_due}
-use Rattle.ds_monitor.specs.Kept.{kept_of}
-use Rattle.ds_monitor.specs.Orderly as monitor
+use Rattle.ds_monitor.specs.Inner.Coming.{first_time, first_event, next_due}
+use Rattle.ds_monitor.specs.Inner.Kept.{kept_of}
+use Rattle.ds_monitor.specs.Inner.Orderly as monitor
 use Rattle.ds_monitor.proofs.Coming.{none_due}
 use Rattle.ds_monitor.proofs.Lawful.{turn_orderly}
 use Rattle.ds_kernel.specs.declared.parts.Parts.{Parts}
-use Rattle.ds_kernel.specs.Parts.{held, own_of}
+use Rattle.ds_kernel.specs.Inner.Parts.{held, own_of}
 use Rattle.ds_refinement.specs.Counts.{Counts, HasNone}
 use Rattle.ds_kernel.proofs.Doing.{none_of_fresh}
-use Rattle.ds_kernel.specs.Good.{IsOrderly, IsGood}
-use Rattle.ds_kernel.specs.Ended.{Does}
-use Rattle.ds_kernel.specs.Going.{GoesOn}
-use Rattle.ds_kernel.specs.Idling.{idled, MayIdle}
+use Rattle.ds_kernel.specs.Inner.Good.{IsOrderly, IsGood}
+use Rattle.ds_kernel.specs.Inner.Ended.{DoesStep}
+use Rattle.ds_kernel.specs.Inner.Going.{GoesOn}
+use Rattle.ds_kernel.specs.Inner.Idling.{idled, MayIdle}
 use Rattle.ds_kernel.proofs.Clocks.{none_since}
-use Rattle.ds_kernel.proofs.Stepping.{none_is_not_some, sound_behind}
+use Rattle.ds_kernel.proofs.Stepping.{none_is_not_some, sound_after}
 use Rattle.ds_kernel.proofs.Running.{step_goes, goes_join}
 
 -- A boundary after a turn of nobody, at which nothing comes.
@@ -189,7 +190,7 @@ module _ (h : Held) (may : MayIdle (h.kept.state.time + 1) h) where
     pairs = λ all. same_pairs h.core.entries;
   }
 
-  turn_does : HasNone h.own → Does Boundary h (idled later h)
+  turn_does : HasNone h.own → DoesStep Boundary h (idled later h)
   turn_does none =
       let time : later ≡ h.kept.state.time + truth (not (is_some h.kept.state.owed)) = ap (λ (o : Option Turn). h.kept.state.time + truth (not (is_some o))) (sym may.owed) in record {
         follows = record { follows = comes };
@@ -245,13 +246,13 @@ turns_reach zero n h sound none may within =
     let does = turn_does h may none in
     record {
       goes = step_goes Boundary n h (idled (h.kept.state.time + 1) h) (idle_goes_on n h may.owed (omega (arith, within)) may.going) sound does;
-      sound = sound_behind Boundary h (idled (h.kept.state.time + 1) h) sound does.follows;
+      sound = sound_after Boundary h (idled (h.kept.state.time + 1) h) sound does.follows;
     }
 turns_reach (suc k) n h sound none may within =
     let next : Held = idled (h.kept.state.time + 1) h in
     let does = turn_does h (first_of (suc k) h may) none in
     let once : GoesOn n h next = step_goes Boundary n h next (idle_goes_on n h may.owed (omega (arith, within)) may.going) sound does in
-    let more : Reached n (h.kept.state.time + 1 + suc k) next = turns_reach k n next (sound_behind Boundary h next sound does.follows) none (others_of (suc k) h may) (omega (arith, within)) in
+    let more : Reached n (h.kept.state.time + 1 + suc k) next = turns_reach k n next (sound_after Boundary h next sound does.follows) none (others_of (suc k) h may) (omega (arith, within)) in
     subst (λ (t : ℕ). Reached n t h) (one_more h.kept.state.time (suc k)) (record { goes = goes_join n h next (idled (h.kept.state.time + 1 + suc k) h) once more.goes; sound = more.sound })
 
 next_of : (k : ℕ) → suc k ≡ k + 1

@@ -9,9 +9,10 @@ use Rattle.ds_pagemap.specs.Machine.{State, Process, process_of, with_process, h
 use Rattle.ds_pagemap.proofs.Processes.{process_of-with_process}
 use Rattle.ds_pagemap_laws.specs.Lawful.{IsReady, IsLawful}
 use Rattle.ds_pagemap_laws.proofs.Formed.{formed_with}
-use Rattle.ds_refinement.specs.Held.{Kept, whole}
-use Rattle.ds_refinement.specs.Services.{seated, seated_process, with_first_seated}
-use Rattle.ds_monitor.specs.Ended.{IsAlive}
+use Rattle.ds_refinement.specs.Held.{Kept}
+use Rattle.ds_refinement.specs.Inner.Held.{whole}
+use Rattle.ds_refinement.specs.Inner.Services.{seated, seated_process, with_first_seated}
+use Rattle.ds_monitor.specs.Inner.Ended.{IsAlive}
 
 -- whatever lies in memory, and whatever lines the log has
 pub lawful_elsewhere : (k : Kept) (a b : List ℕ) (l l' : List Line) → IsLawful (whole k a l) → IsLawful (whole k b l')

@@ -7,17 +7,19 @@ use Rattle.std.specs.List.Sorted.{IsNonDecreasingBy}
 use Rattle.ds_policy.specs.InputFacts.{has_time, comes_at}
 use Rattle.ds_word.specs.Word.{word}
 use Rattle.ds_isa.specs.Registers.{settled}
-use Rattle.ds_tlb.specs.Entries.{ticked, passed}
+use Rattle.ds_tlb.specs.Entries.{random_after}
+use Rattle.ds_tlb.specs.Inner.Entries.{passed}
 use Rattle.ds_cp0.specs.declared.exception.ExceptionCode.{ExceptionCode}
 use Rattle.ds_cp0.specs.declared.exception.ExceptionCode.TheVariants.{SystemCall}
 use Rattle.ds_cp0.specs.System.{System}
 use Rattle.ds_dev.specs.Bus.{BusState}
 use Rattle.ds_dev.specs.Serial.{SerialState}
-use Rattle.ds_core.specs.Core.{CoreState, Step, is_raised, trapped, with_tick}
+use Rattle.ds_core.specs.Core.{CoreState, Step, trapped, with_tick}
+use Rattle.ds_core.specs.Inner.Core.{is_raised}
 use Rattle.ds_core.specs.Effect.{step}
 use Rattle.ds_ahead.specs.declared.ride.Ride.{Ride}
-use Rattle.ds_ahead.specs.Ahead.{Hardware, hardware_of, after_steps, Advances, AdvancesTo, ComesByWords, owed_tick, ticks}
-use Rattle.ds_ahead.specs.Ride.{ridden, Rides, MayGoOn, behind_answer}
+use Rattle.ds_ahead.specs.Inner.Ahead.{Hardware, hardware_of, after_steps, Advances, AdvancesTo, ComesByWords, owed_tick, ticks}
+use Rattle.ds_ahead.specs.Inner.Ride.{ridden, Rides, MayGoOn, after_answer}
 use Rattle.ds_ahead.proofs.Advances.{advances_none, comes_on, advances_join}
 use Rattle.ds_ahead.proofs.Stretches.{join_to, words_join, words_to}
 use Rattle.ds_ahead.proofs.Slots.{ticks_of_advance}
@@ -26,30 +28,31 @@ use Rattle.ds_refinement.specs.Held.{Held, Own}
 use Rattle.ds_refinement.specs.Told.{is_delayed}
 use Rattle.ds_refinement.specs.Units.{user_status}
 use Rattle.ds_refinement.specs.Handling.{IsWhole}
-use Rattle.ds_refinement.specs.Counts.{IsFresh, Counts, counts_of, with_counts, one_more, fresh}
-use Rattle.ds_refinement.specs.Blocks.{MayRunAhead, more_counted, counts_behind}
-use Rattle.ds_refinement.specs.Services.{with_none_spent}
+use Rattle.ds_refinement.specs.Counts.{Counts, counts_of, one_more, fresh_counts}
+use Rattle.ds_refinement.specs.Inner.Counts.{IsFresh, with_counts}
+use Rattle.ds_refinement.specs.Inner.Blocks.{MayRunAhead, more_counted, counts_beyond}
+use Rattle.ds_refinement.specs.Inner.Services.{with_none_spent}
 use Rattle.ds_refinement.proofs.BlockPaths.{raised_ticks}
 use Rattle.ds_refinement.proofs.Tallied.{few_of}
 use Rattle.ds_refinement.proofs.Raising.{slot_of_raised}
 use Rattle.ds_monitor.specs.declared.monitor.Monitor.{Monitor}
-use Rattle.ds_monitor.specs.Room.{HasLogRoom, HasRoom}
-use Rattle.ds_monitor.specs.Consoles as consoles
-use Rattle.ds_monitor.specs.Sending.{with_sent}
+use Rattle.ds_monitor.specs.Inner.Room.{HasLogRoom, HasRoom}
+use Rattle.ds_monitor.specs.Inner.Consoles as consoles
+use Rattle.ds_monitor.specs.Inner.Sending.{with_sent}
 use Rattle.ds_kernel.specs.declared.parts.Parts.{Parts}
-use Rattle.ds_kernel.specs.Parts.{held, own_of, with_counts_of}
-use Rattle.ds_kernel.specs.Good.{IsGood}
-use Rattle.ds_kernel.specs.Going.{GoesOn}
-use Rattle.ds_kernel.specs.Seats.{behind_call, back_on}
-use Rattle.ds_kernel.specs.AtOnce.{IsCalled, IsQuietCall, IsAnswered}
-use Rattle.ds_kernel.specs.InBlock.{InBlock, IsBehindCall, riding, called_counts, at_call}
+use Rattle.ds_kernel.specs.Inner.Parts.{held, own_of, with_counts_of}
+use Rattle.ds_kernel.specs.Inner.Good.{IsGood}
+use Rattle.ds_kernel.specs.Inner.Going.{GoesOn}
+use Rattle.ds_kernel.specs.Inner.Seats.{past_call, back_on}
+use Rattle.ds_kernel.specs.Inner.AtOnce.{IsCalled, IsQuietCall, IsAnswered}
+use Rattle.ds_kernel.specs.Inner.InBlock.{InBlock, IsBehindCall, riding, called_counts, at_call}
 use Rattle.ds_kernel.proofs.Ahead.{may_run_ahead}
 use Rattle.ds_kernel.proofs.Blocking.{IsMoved, counted_is, calm_good, calm_goes, raised_good, raised_goes, raised_soon, raised_call, system_kept}
 use Rattle.ds_kernel.proofs.Running.{goes_join}
 
 -- Random names a slot that is not wired, however often it is counted down.
 
-ticked_range : (r : ℕ) → 8 ≤ r → r < 64 → (8 ≤ ticked 64 8 r) × (ticked 64 8 r < 64)
+ticked_range : (r : ℕ) → 8 ≤ r → r < 64 → (8 ≤ random_after 64 8 r) × (random_after 64 8 r < 64)
 ticked_range r low high = by (r == 8) refl
   where
     by : (is : Bool) → (r == 8) ≡ is → (8 ≤ cond is (64 - 1) (r - 1)) × (cond is (64 - 1) (r - 1) < 64)
@@ -73,14 +76,14 @@ called_whole r c b w = record {
 -- An answered call.
 
 -- Cause, EPC and Status as they were, where the program was in user mode
-abbrev behind_by : CoreState → ℕ → ℕ → System → CoreState
-behind_by c answer pc system = record c {
+abbrev after_by : CoreState → ℕ → ℕ → System → CoreState
+after_by c answer pc system = record c {
   registers = record (settled c.registers) { general = slice_set (slice_set (slice_set c.registers.general 2 answer) 26 0) 27 (word (pc + 4)) };
   pc = word (pc + 4);
   next = word (word (pc + 4) + 4);
   slot = false;
   system = system;
-  random = ticked 64 8 c.random;
+  random = random_after 64 8 c.random;
 }
 
 epc_outside : (slot : Bool) (pc : ℕ) → slot ≡ false → pc ≡ cond slot (word (pc + (2 ^ 32 - 4))) pc
@@ -88,23 +91,23 @@ epc_outside true pc e = absurd cc
 epc_outside false pc e = refl
 
 -- entering a call and coming back behind it, with an answer and with Cause and EPC as they were, writes registers and goes on
-pub behind_is : (c : CoreState) (b : BusState) (answer : ℕ) (q : Process) → c.slot ≡ false → c.system.status ≡ user_status
-    → behind_answer c answer ≡ back_on (with_tick (trapped c b SystemCall)).core (behind_call (with_tick (trapped c b SystemCall)).core answer q) c.system.cause c.system.epc
-behind_is c b answer q outside mode =
-    ap₂ (behind_by c answer) (epc_outside c.slot c.pc outside) (ap (λ (w : ℕ). record c.system { status = w }) mode)
+pub after_is : (c : CoreState) (b : BusState) (answer : ℕ) (q : Process) → c.slot ≡ false → c.system.status ≡ user_status
+    → after_answer c answer ≡ back_on (with_tick (trapped c b SystemCall)).core (past_call (with_tick (trapped c b SystemCall)).core answer q) c.system.cause c.system.epc
+after_is c b answer q outside mode =
+    ap₂ (after_by c answer) (epc_outside c.slot c.pc outside) (ap (λ (w : ℕ). record c.system { status = w }) mode)
 
 -- whose turn it is among the first slots is no matter of instructions
 more_wired : (n : ℕ) (c : Counts) → (more_counted n c).wired ≡ c.wired
 more_wired zero c = refl
 more_wired (suc n) c = more_wired n c
 
-counts_wired : (n t : ℕ) (slot : Bool) (own : Own) → (counts_behind n t slot own).wired ≡ own.wired
+counts_wired : (n t : ℕ) (slot : Bool) (own : Own) → (counts_beyond n t slot own).wired ≡ own.wired
 counts_wired n zero slot own = more_wired n (counts_of own)
 counts_wired n (suc t) slot own = refl
 
 -- after an answer nothing is counted, whatever was before
 pub none_counted : {L : Type 0} (mark left before : ℕ) (c : CoreState) (p : Parts L) → with_none_spent (own_of p) ≡ with_none_spent (own_of (at_call mark left before c p))
-none_counted mark left before c p = ap (λ (w : ℕ). with_counts (own_of p) (fresh w)) (sym (counts_wired (mark - before - left) (mark - left) false (own_of p)))
+none_counted mark left before c p = ap (λ (w : ℕ). with_counts (own_of p) (fresh_counts w)) (sym (counts_wired (mark - before - left) (mark - left) false (own_of p)))
 
 -- a ride goes on where a character has left on a line
 pub rides_elsewhere : (r : Ride) (c : CoreState) (b b2 : BusState) (line : ℕ) → b2 ≡ with_sent b line → Rides r c b → Rides r c b2
@@ -173,13 +176,13 @@ module _ {L : Type 0} (begun : Held) (n end mark left before : ℕ) (c : CoreSta
   own_is : own_of p ≡ own_of k.start
   own_is = ap (λ (x : Parts L). own_of x) k.still
 
-  counts_is : own_of entered_there ≡ with_counts (own_of k.start) (one_more (counts_behind done (mark - left) (is_delayed there.system) (own_of k.start)))
+  counts_is : own_of entered_there ≡ with_counts (own_of k.start) (one_more (counts_beyond done (mark - left) (is_delayed there.system) (own_of k.start)))
   counts_is =
       let counts : Counts = called_counts mark left before p in
       ap (λ (w : List ℕ). with_counts (own_of p) (record counts { written = w })) (take-length counts.written)
-      ∙ (ap (λ (m : ℕ). with_counts (own_of p) (one_more (counts_behind m (mark - left) false (own_of p)))) done_is
-      ∙ (ap (λ (s : Bool). with_counts (own_of p) (one_more (counts_behind done (mark - left) s (own_of p)))) (sym not_delayed)
-      ∙ ap (λ (o : Own). with_counts o (one_more (counts_behind done (mark - left) (is_delayed there.system) o))) own_is))
+      ∙ (ap (λ (m : ℕ). with_counts (own_of p) (one_more (counts_beyond m (mark - left) false (own_of p)))) done_is
+      ∙ (ap (λ (s : Bool). with_counts (own_of p) (one_more (counts_beyond done (mark - left) s (own_of p)))) (sym not_delayed)
+      ∙ ap (λ (o : Own). with_counts o (one_more (counts_beyond done (mark - left) (is_delayed there.system) o))) own_is))
 
   in_time : k.start.monitor.time + k.limit + 1 ≤ 1000000001
   in_time = (let t = k.time in let w = k.within in let e = k.early in omega (arith, t, w, e))
@@ -271,8 +274,8 @@ module _ {L : Type 0} (begun : Held) (n end mark left before : ℕ) (c : CoreSta
   join {x = x} {y = y} {z = z} (inr before) after = goes_join n y x z before after
 
   -- and is answered then
-  pub answered_behind : (left2 : ℕ) (new : Parts L) → left2 + 1 ≡ left → new.monitor.time ≡ p.monitor.time + (mark - left2) → IsAnswered entered_there new → IsBehindCall begun n end left2 new
-  answered_behind left2 new one time a =
+  pub answered_after : (left2 : ℕ) (new : Parts L) → left2 + 1 ≡ left → new.monitor.time ≡ p.monitor.time + (mark - left2) → IsAnswered entered_there new → IsBehindCall begun n end left2 new
+  answered_after left2 new one time a =
       let after : GoesOn n (held entered_there) (held new) = a.goes n early_there in
       let queue : p.monitor.ready ≡ k.start.monitor.ready = ap (λ (x : Monitor). x.ready) monitor_is in
       let until : p.monitor.quiet_until ≡ k.start.monitor.quiet_until = ap (λ (x : Monitor). x.quiet_until) monitor_is in
@@ -532,13 +535,13 @@ module _ {L : Type 0} (begun : Held) (n end mark left before : ℕ) (p : Parts L
         fewer_by : total < k.limit
         fewer_by = (let l = k.most in let s = k.some in omega (arith, l, s, fewer))
 
-        module _ (whole : IsWhole mid.core) (new : Parts L) (own : own_of new ≡ with_counts (own_of mid) (one_more (counts_behind counted_steps passed_by slot (own_of mid))))
+        module _ (whole : IsWhole mid.core) (new : Parts L) (own : own_of new ≡ with_counts (own_of mid) (one_more (counts_beyond counted_steps passed_by slot (own_of mid))))
             (by : new ≡ record (with_counts_of new mid) { monitor = record mid.monitor { time = mid.monitor.time + passed_by } }) where
-          own_by : own_of new ≡ with_counts (own_of k.start) (one_more (counts_behind total passed_by (is_delayed mid.core.system) (own_of k.start)))
+          own_by : own_of new ≡ with_counts (own_of k.start) (one_more (counts_beyond total passed_by (is_delayed mid.core.system) (own_of k.start)))
           own_by =
               own
-              ∙ (ap (λ (o : Own). with_counts o (one_more (counts_behind counted_steps passed_by slot o))) mid_own
-              ∙ ap₂ (λ (m : ℕ) (s : Bool). with_counts (own_of k.start) (one_more (counts_behind m passed_by s (own_of k.start)))) total_is told)
+              ∙ (ap (λ (o : Own). with_counts o (one_more (counts_beyond counted_steps passed_by slot o))) mid_own
+              ∙ ap₂ (λ (m : ℕ) (s : Bool). with_counts (own_of k.start) (one_more (counts_beyond m passed_by s (own_of k.start)))) total_is told)
 
           moved_by : IsMoved k.start new mid.core mid.bus passed_by
           moved_by = counted_is k.start mid new passed_by mid_still by
@@ -571,7 +574,7 @@ module _ {L : Type 0} (begun : Held) (n end mark left before : ℕ) (p : Parts L
           ends_raised_log = subst (HasLogRoom 1) (sym monitor_by) k.room.log
 
   -- All its steps were taken.
-  module _ (over : left ≡ 0) (here : p.core.pc < 2 ^ 32) (new : Parts L) (slot : Bool) (stands : slot ≡ p.core.slot) (own : own_of new ≡ with_counts (own_of p) (counts_behind (mark - before) (mark - before + before - owed_tick slot) slot (own_of p)))
+  module _ (over : left ≡ 0) (here : p.core.pc < 2 ^ 32) (new : Parts L) (slot : Bool) (stands : slot ≡ p.core.slot) (own : own_of new ≡ with_counts (own_of p) (counts_beyond (mark - before) (mark - before + before - owed_tick slot) slot (own_of p)))
       (by : new ≡ record (with_counts_of new p) { monitor = record p.monitor { time = p.monitor.time + (mark - before + before - owed_tick slot) } }) where
     abbrev passed_over : ℕ
     passed_over = mark - before + before - owed_tick slot
@@ -597,11 +600,11 @@ module _ {L : Type 0} (begun : Held) (n end mark left before : ℕ) (p : Parts L
     over_time : passed_over ≡ k.limit + owed_tick k.start.core.slot - owed_tick p.core.slot
     over_time = (let i = limit_is in let b = k.slot_tick in let o = owed_over in omega (arith, i, b, o))
 
-    over_own : own_of new ≡ with_counts (own_of k.start) (counts_behind k.limit passed_over p.core.slot (own_of k.start))
+    over_own : own_of new ≡ with_counts (own_of k.start) (counts_beyond k.limit passed_over p.core.slot (own_of k.start))
     over_own =
         own
-        ∙ (ap (λ (o : Own). with_counts o (counts_behind (mark - before) passed_over slot o)) (ap (λ (x : Parts L). own_of x) k.still)
-        ∙ ap₂ (λ (m : ℕ) (s : Bool). with_counts (own_of k.start) (counts_behind m passed_over s (own_of k.start))) limit_is stands)
+        ∙ (ap (λ (o : Own). with_counts o (counts_beyond (mark - before) passed_over slot o)) (ap (λ (x : Parts L). own_of x) k.still)
+        ∙ ap₂ (λ (m : ℕ) (s : Bool). with_counts (own_of k.start) (counts_beyond m passed_over s (own_of k.start))) limit_is stands)
 
     over_moved : IsMoved k.start new p.core p.bus passed_over
     over_moved = counted_is k.start p new passed_over k.still by

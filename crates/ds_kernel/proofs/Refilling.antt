@@ -5,31 +5,32 @@ use Rattle.std.proofs.lemmas.Bool.Decides.{nat_tests}
 use Rattle.ds_word.specs.Word.{truth}
 use Rattle.ds_cp0.specs.System.{is_user}
 use Rattle.ds_core.specs.Core.{CoreState}
-use Rattle.ds_refill.specs.Refill.{handler_events}
-use Rattle.ds_refill.specs.Refills.{RunsInside}
+use Rattle.ds_refill.specs.Inner.Refill.{handler_events}
+use Rattle.ds_refill.specs.Inner.Refills.{RunsInside}
 use Rattle.ds_refinement.specs.Held.{Held, Own}
 use Rattle.ds_refinement.specs.Units.{is_served}
 use Rattle.ds_refinement.specs.Real.{RealPath}
-use Rattle.ds_refinement.specs.Services.{with_refill}
-use Rattle.ds_refinement.specs.Stands.{IsSound}
+use Rattle.ds_refinement.specs.Inner.Services.{with_refill}
+use Rattle.ds_refinement.specs.Inner.Stands.{IsSound}
 use Rattle.ds_refinement.specs.Runs.{held_goes_on}
 use Rattle.ds_refinement.proofs.Joined.{path_join, path_sound}
 use Rattle.ds_refinement.proofs.RunSteps.{begins_goes}
 use Rattle.ds_refinement.proofs.Nine.{refill_path, refill_within}
 use Rattle.ds_refinement.proofs.Tallied.{few_of}
 use Rattle.ds_kernel.specs.declared.parts.Parts.{Parts}
-use Rattle.ds_kernel.specs.Parts.{held, own_of, with_counts_of}
-use Rattle.ds_tlb.specs.Entries.{passed}
-use Rattle.ds_refinement.specs.Counts.{counts_of, with_counts, one_refilled}
-use Rattle.ds_kernel.specs.Good.{IsGood, IsOrderly}
+use Rattle.ds_kernel.specs.Inner.Parts.{held, own_of, with_counts_of}
+use Rattle.ds_tlb.specs.Inner.Entries.{passed}
+use Rattle.ds_refinement.specs.Counts.{counts_of}
+use Rattle.ds_refinement.specs.Inner.Counts.{with_counts, one_refilled}
+use Rattle.ds_kernel.specs.Inner.Good.{IsGood, IsOrderly}
 use Rattle.ds_monitor.specs.declared.monitor.Monitor.{Monitor}
-use Rattle.ds_monitor.specs.Coming.{next_due}
-use Rattle.ds_monitor.specs.Kept.{kept_of}
-use Rattle.ds_monitor.specs.Room.{HasTurnRoom}
+use Rattle.ds_monitor.specs.Inner.Coming.{next_due}
+use Rattle.ds_monitor.specs.Inner.Kept.{kept_of}
+use Rattle.ds_monitor.specs.Inner.Room.{HasTurnRoom}
 use Rattle.ds_kernel.proofs.Doing.{owed_small}
 use Rattle.ds_kernel.proofs.Stepping.{none_is_not_some}
-use Rattle.ds_kernel.specs.Going.{GoesOn}
-use Rattle.ds_kernel.specs.Refilled.{has_missed}
+use Rattle.ds_kernel.specs.Inner.Going.{GoesOn}
+use Rattle.ds_kernel.specs.Inner.Refilled.{has_missed}
 use Rattle.ds_grants.proofs.OwnFrames.{truth_small}
 use Rattle.ds_kernel.proofs.Blocking.{rank_of}
 use Rattle.ds_kernel.proofs.Running.{goes_join}

@@ -5,10 +5,10 @@ use Rattle.std.proofs.Math.Nat.{min-le_left}
 use Rattle.ds_policy.specs.Value.{InputValue}
 use Rattle.ds_policy.specs.InputFacts.{has_time, comes_at}
 use Rattle.ds_pagemap.specs.declared.turn.Turn.{Turn}
-use Rattle.ds_monitor.specs.Coming.{first_time, first_due, period_end, next_due}
-use Rattle.ds_monitor.specs.Commands.{commands_by}
-use Rattle.ds_monitor.specs.Kept.{kept_of}
-use Rattle.ds_monitor.specs.Room.{HasLogRoom, HasRoom, HasBoundaryRoom, HasTurnRoom}
+use Rattle.ds_monitor.specs.Inner.Coming.{first_time, first_due, period_end, next_due}
+use Rattle.ds_monitor.specs.Inner.Commands.{commands_by}
+use Rattle.ds_monitor.specs.Inner.Kept.{kept_of}
+use Rattle.ds_monitor.specs.Inner.Room.{HasLogRoom, HasRoom, HasBoundaryRoom, HasTurnRoom}
 use Rattle.ds_monitor.specs.declared.monitor.Monitor.{Monitor}
 use Rattle.ds_monitor.proofs.Commanding.{by_more, by_none, fewer_lines}
 
@@ -49,8 +49,8 @@ boundary_room m time owed soon r =
     fewer_lines (commands_by time m.due.commands) (1 + commands_by (m.time + 2) m.due.commands) (record m { time = time; owed = owed }) (omega (arith, few)) r.log
 
 -- and so it has where the unit wrote a line
-pub boundary_room_behind : (old new : Monitor) → new.time ≤ old.time + 2 → new.due ≡ old.due → ((n : ℕ) → HasLogRoom (n + 1) old → HasLogRoom n new) → HasTurnRoom old → HasBoundaryRoom new
-boundary_room_behind old new soon same less r =
+pub boundary_room_after : (old new : Monitor) → new.time ≤ old.time + 2 → new.due ≡ old.due → ((n : ℕ) → HasLogRoom (n + 1) old → HasLogRoom n new) → HasTurnRoom old → HasBoundaryRoom new
+boundary_room_after old new soon same less r =
     let count : ℕ = commands_by (old.time + 2) old.due.commands in
     let few : commands_by new.time old.due.commands ≤ count = by_more new.time (old.time + 2) old.due.commands soon in
     let now : commands_by new.time new.due.commands ≡ commands_by new.time old.due.commands = ap (λ (i : InputValue). commands_by new.time i.commands) same in

@@ -12,18 +12,18 @@ use Rattle.ds_refinement.specs.declared.step.Step.{Step}
 use Rattle.ds_refinement.specs.declared.step.Step.TheVariants.{Inside, Unit, Boundary, Over}
 use Rattle.ds_refinement.specs.Held.{Held}
 use Rattle.ds_refinement.specs.Units.{is_served}
-use Rattle.ds_refinement.specs.Stands.{IsSound}
+use Rattle.ds_refinement.specs.Inner.Stands.{IsSound}
 use Rattle.ds_refinement.specs.Steps.{Follows, Moves, ticks_of, steps_left}
 use Rattle.ds_refinement.specs.Runs.{held_goes_on}
 use Rattle.ds_refinement.proofs.Joined.{one_step, path_join}
 use Rattle.ds_refinement.proofs.RunSteps.{goes_alike, begins_goes, within_start, within_step}
 use Rattle.ds_kernel.specs.declared.halt.Halt.TheVariants.{Failed}
 use Rattle.ds_kernel.specs.declared.parts.Parts.{Parts}
-use Rattle.ds_kernel.specs.Parts.{held}
-use Rattle.ds_kernel.specs.Good.{IsOrderly}
-use Rattle.ds_kernel.specs.Ended.{Does}
-use Rattle.ds_kernel.specs.Ran.{HasRun, WasCut}
-use Rattle.ds_kernel.specs.Going.{rank, GoesOn}
+use Rattle.ds_kernel.specs.Inner.Parts.{held}
+use Rattle.ds_kernel.specs.Inner.Good.{IsOrderly}
+use Rattle.ds_kernel.specs.Inner.Ended.{DoesStep}
+use Rattle.ds_kernel.specs.Inner.Ran.{HasRun, WasCut}
+use Rattle.ds_kernel.specs.Inner.Going.{rank, GoesOn}
 use Rattle.ds_grants.proofs.OwnFrames.{truth_small}
 use Rattle.ds_kernel.proofs.Blocking.{few_left, rank_of}
 
@@ -127,7 +127,7 @@ step_begun Unit n old new going sound f m some = (let none : new.own.spent ≡ 0
 step_begun Boundary n old new going sound f m some = (let none : new.own.spent ≡ 0 = m.1 in absurd (omega (arith, none, some)))
 step_begun Over n old new going sound f m some = absurd (not_done n old new sound going f)
 
-pub step_goes : (step : Step) (n : ℕ) (old new : Held) → held_goes_on n old ≡ true → IsSound old → Does step old new → GoesOn n old new
+pub step_goes : (step : Step) (n : ℕ) (old new : Held) → held_goes_on n old ≡ true → IsSound old → DoesStep step old new → GoesOn n old new
 step_goes step n old new going sound does = record {
   runs = λ start h. record {
     path = path_join start old new h.path (one_step step old new does.follows does.moves does.real);

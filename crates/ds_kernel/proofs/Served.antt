@@ -3,37 +3,41 @@ use Rattle.std.proofs.Common.{◌≡◌, inl, ℕ, ◌+◌, ◌<◌, ◌≤◌, 
 use Rattle.std.specs.List.{All}
 use Rattle.ds_tlb.specs.declared.entry.Entry.{Entry}
 use Rattle.ds_dev.specs.declared.serial.Character.{Character as Received}
-use Rattle.ds_dev.specs.Bus.{BusState, asks}
+use Rattle.ds_dev.specs.Bus.{BusState}
+use Rattle.ds_dev.specs.Inner.Bus.{asks}
 use Rattle.ds_core.specs.Core.{CoreState}
 use Rattle.ds_policy.specs.declared.command.Character.{Character}
 use Rattle.ds_grants.specs.State.{page_state}
-use Rattle.ds_grants.specs.Represented.{IsRepresented, IsLow, Keeps}
+use Rattle.ds_grants.specs.Represented.{IsRepresented}
+use Rattle.ds_grants.specs.Inner.Represented.{IsLow, Keeps}
 use Rattle.ds_grants.specs.Sound.{NamesPages}
 use Rattle.ds_pagemap.specs.declared.turn.Turn.{Turn}
 use Rattle.ds_pagemap.specs.Machine.{State}
 use Rattle.ds_pagemap.specs.Boundary.{all_queued, has_passed, boundary}
 use Rattle.ds_pagemap_laws.specs.Due.{come}
 use Rattle.ds_pagemap_laws.proofs.Formed.{formed_with}
-use Rattle.ds_refinement.specs.Held.{Kept, whole}
+use Rattle.ds_refinement.specs.Held.{Kept}
+use Rattle.ds_refinement.specs.Inner.Held.{whole}
 use Rattle.ds_refill.specs.Handler.{HasWords}
 use Rattle.ds_refinement.specs.Pairs.{HasNoNewPairs}
-use Rattle.ds_refinement.specs.Stands.{IsSound, AreResting}
-use Rattle.ds_refinement.specs.Services.{Serves, EntersBy, EndsBy, seated, with_none_spent}
+use Rattle.ds_refinement.specs.Stands.{AreResting}
+use Rattle.ds_refinement.specs.Inner.Stands.{IsSound}
+use Rattle.ds_refinement.specs.Inner.Services.{Serves, EntersBy, EndsUnitBy, seated, with_none_spent}
 use Rattle.ds_pagemap.proofs.Boundaries.{boundary_owed}
 use Rattle.ds_monitor.specs.declared.monitor.Monitor.{Monitor}
-use Rattle.ds_monitor.specs.Coming.{next_due}
-use Rattle.ds_monitor.specs.Kept.{kept_of}
-use Rattle.ds_monitor.specs.Orderly as monitor
+use Rattle.ds_monitor.specs.Inner.Coming.{next_due}
+use Rattle.ds_monitor.specs.Inner.Kept.{kept_of}
+use Rattle.ds_monitor.specs.Inner.Orderly as monitor
 use Rattle.ds_monitor.proofs.Serving.{serves_as}
 use Rattle.ds_kernel.specs.declared.parts.Parts.{Parts}
-use Rattle.ds_kernel.specs.Parts.{held, own_of, with_counts_of}
+use Rattle.ds_kernel.specs.Inner.Parts.{held, own_of, with_counts_of}
 use Rattle.ds_refinement.specs.Handling.{IsWhole}
-use Rattle.ds_kernel.specs.Devices.{IsOfLine, typed, interrupted}
-use Rattle.ds_kernel.specs.Attended.{to_come, bus_at, read_out, runner_of, unowed, ruled, HasAttended}
+use Rattle.ds_kernel.specs.Inner.Devices.{IsOfLine, typed, interrupted}
+use Rattle.ds_kernel.specs.Inner.Attended.{to_come, bus_at, read_out, runner_of, unowed, ruled, HasAttended}
 use Rattle.ds_kernel.proofs.Attending.{at_boundary, quiet_kept, arrived_kept, seated_between, seat_beside, boundary_serves, unseen, ruled_alike, queued_alike, flag_is, rest_again}
 use Rattle.ds_refinement.proofs.NoNewPairs.{joined_pairs}
 use Rattle.ds_refinement.proofs.Vectors.{vectors_first}
-use Rattle.ds_kernel.proofs.Finishing.{spaces_orderly, memory_rests, base_as, none_counted, ranges_behind}
+use Rattle.ds_kernel.proofs.Finishing.{spaces_orderly, memory_rests, base_as, none_counted, ranges_after}
 
 -- nothing was received yet, so each that was is of a line
 pub none_received : (silo : List Received) → silo ≡ [] → All IsOfLine silo
@@ -262,7 +266,7 @@ module _ {L : Type 0} (old came served new : Parts L) (ahead : Monitor) (turn : 
   none_owed : new.monitor.owed ≡ None
   none_owed = sym (ap (λ (s : State). s.owed) (served_is.state [])) ∙ boundary_owed (whole k0 b.memory [])
 
-  ends_by : EndsBy boundary (held old) (held new)
+  ends_by : EndsUnitBy boundary (held old) (held new)
   ends_by = record {
     serves = served_is;
     enters = enters;
@@ -275,7 +279,7 @@ module _ {L : Type 0} (old came served new : Parts L) (ahead : Monitor) (turn : 
         (memory_rests (read_out (bus_at b k)) served.bus.memory (kept_of new.monitor)
         (rest_again b k resting (kept_of new.monitor) (ap (λ (m : Monitor). m.rate) all) (ap (λ (m : Monitor). m.ticked) all) (ap (λ (m : Monitor). m.time) all) none_owed before));
     none = none_counted (own_of old) (own_of new) own_is;
-    ranges = ranges_behind (held old) new.core (own_of new) sound complete own_is;
+    ranges = ranges_after (held old) new.core (own_of new) sound complete own_is;
   }
 
   few : new.monitor.lines + length new.monitor.due.commands ≤ old.monitor.lines + length old.monitor.due.commands

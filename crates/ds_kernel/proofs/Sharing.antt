@@ -17,21 +17,22 @@ use Rattle.ds_pagemap_laws.specs.Lawful.{IsReady, IsWellFormed, IsLawful}
 use Rattle.ds_pagemap_laws.proofs.LawfulBoundaries.{typed_formed, woken_lawful, rotated_lawful}
 use Rattle.ds_pagemap_laws.specs.Due.{come}
 use Rattle.ds_grants.specs.State.{page_state}
-use Rattle.ds_refinement.specs.Held.{Kept, whole}
-use Rattle.ds_refinement.specs.Services.{IsBare, Serves}
-use Rattle.ds_monitor.specs.Commands.{with_ends, commanded}
+use Rattle.ds_refinement.specs.Held.{Kept}
+use Rattle.ds_refinement.specs.Inner.Held.{whole}
+use Rattle.ds_refinement.specs.Inner.Services.{IsBare, Serves}
+use Rattle.ds_monitor.specs.Inner.Commands.{with_ends, commanded}
 use Rattle.ds_monitor.proofs.Serving.{serves_then}
 use Rattle.ds_monitor.proofs.Called.{by_kept}
 use Rattle.ds_dev.specs.declared.serial.Character.{Character as Received}
-use Rattle.ds_kernel.specs.Devices.{typed}
-use Rattle.ds_monitor.specs.Blind.{IsBlind}
-use Rattle.ds_monitor.specs.Kept.{kept_after}
-use Rattle.ds_monitor.specs.Ended.{marks_of}
-use Rattle.ds_monitor.specs.Orderly as monitor
+use Rattle.ds_kernel.specs.Inner.Devices.{typed}
+use Rattle.ds_monitor.specs.Inner.Blind.{IsBlind}
+use Rattle.ds_monitor.specs.Inner.Kept.{kept_after}
+use Rattle.ds_monitor.specs.Inner.Ended.{marks_of}
+use Rattle.ds_monitor.specs.Inner.Orderly as monitor
 use Rattle.ds_monitor.proofs.Lawful.{good_as}
 use Rattle.ds_procs.specs.declared.process.Standing.{Standing}
 use Rattle.ds_procs.specs.declared.process.Standing.TheVariants.{Ready, Waiting, Parked, Ended}
-use Rattle.ds_kernel.specs.Attended.{shared, ruled, to_come}
+use Rattle.ds_kernel.specs.Inner.Attended.{shared, ruled, to_come}
 
 if_blind : (b : Bool) (m : State) (p : ℕ) (memory : PageState) (log : List Line)
     → cond b (made_ready (record m { memory = memory; log = log }) p) (record m { memory = memory; log = log }) ≡ record (cond b (made_ready m p) m) { memory = memory; log = log }

@@ -7,7 +7,7 @@ use Rattle.ds_word.specs.Word.{bit}
 use Rattle.ds_dev.specs.declared.serial.Character.{Character as Received}
 use Rattle.ds_dev.specs.Serial.{SerialState, taken, read_silo}
 use Rattle.ds_kernel.specs.declared.devices.Typed.{Typed}
-use Rattle.ds_kernel.specs.Devices.{IsOfLine, oldest}
+use Rattle.ds_kernel.specs.Inner.Devices.{IsOfLine, oldest}
 
 abbrev told : ℕ → Typed
 told word = record { line = word / 256 % 4; byte = word % 256 }

@@ -6,9 +6,10 @@ use Rattle.ds_cp0.specs.System.{is_user}
 use Rattle.ds_core.specs.declared.event.Event.{Event}
 use Rattle.ds_core.specs.declared.event.Event.TheVariants.{Retired, Branched, Raised}
 use Rattle.ds_core.specs.Core as core
-use Rattle.ds_core.specs.Core.{CoreState, is_raised}
+use Rattle.ds_core.specs.Core.{CoreState}
+use Rattle.ds_core.specs.Inner.Core.{is_raised}
 use Rattle.ds_core.specs.Effect.{step}
-use Rattle.ds_ahead.specs.Ahead.{owed_tick}
+use Rattle.ds_ahead.specs.Inner.Ahead.{owed_tick}
 use Rattle.ds_core.proofs.Users.{keeps_system}
 use Rattle.ds_dev.specs.Bus.{BusState}
 use Rattle.ds_pagemap.specs.declared.turn.Turn.{Turn}
@@ -16,11 +17,12 @@ use Rattle.ds_pagemap.specs.Run.{is_over}
 use Rattle.ds_refinement.specs.declared.step.Step.{Step}
 use Rattle.ds_refinement.specs.declared.step.Step.TheVariants.{Inside, Over}
 use Rattle.ds_refinement.specs.Held.{Held, Own}
-use Rattle.ds_refinement.specs.Counts.{IsFresh, counts_of, one_more}
-use Rattle.ds_refinement.specs.Stands.{IsSound}
-use Rattle.ds_refill.specs.Handler.{address_of}
+use Rattle.ds_refinement.specs.Counts.{counts_of, one_more}
+use Rattle.ds_refinement.specs.Inner.Counts.{IsFresh}
+use Rattle.ds_refinement.specs.Inner.Stands.{IsSound}
+use Rattle.ds_refill.specs.Handler.{handler_address}
 use Rattle.ds_refinement.specs.Handling.{IsWhole, touches}
-use Rattle.ds_refinement.specs.Services.{after_event, after_word, step_of, with_failure, with_one_spent}
+use Rattle.ds_refinement.specs.Inner.Services.{after_event, after_word, step_of, with_failure, with_one_spent}
 use Rattle.ds_refinement.specs.Steps.{Follows, ticks_of}
 use Rattle.ds_refinement.specs.Units.{is_general, is_served}
 use Rattle.ds_refinement.proofs.Boundaries.{rests}
@@ -32,23 +34,23 @@ use Rattle.ds_refinement.proofs.NoNewPairs.{same_pairs}
 use Rattle.ds_refinement.proofs.Words.{word_follows}
 use Rattle.ds_refinement.proofs.Quieter.{user_status_of}
 use Rattle.ds_refinement.proofs.Stages.{step_follows}
-use Rattle.ds_monitor.specs.Coming.{next_due}
-use Rattle.ds_monitor.specs.Kept.{kept_of}
+use Rattle.ds_monitor.specs.Inner.Coming.{next_due}
+use Rattle.ds_monitor.specs.Inner.Kept.{kept_of}
 use Rattle.ds_monitor.specs.declared.monitor.Monitor.{Monitor}
-use Rattle.ds_monitor.specs.Room.{HasBoundaryRoom, HasTurnRoom}
+use Rattle.ds_monitor.specs.Inner.Room.{HasBoundaryRoom, HasTurnRoom}
 use Rattle.ds_monitor.proofs.Lawful.{turn_orderly}
 use Rattle.ds_kernel.proofs.Rooms.{turn_room_still, boundary_room}
 use Rattle.ds_kernel.specs.declared.parts.Parts.{Parts}
-use Rattle.ds_kernel.specs.Parts.{held, own_of, with_counts_of}
-use Rattle.ds_kernel.specs.Good.{IsOrderly, IsGood}
-use Rattle.ds_kernel.specs.Ended.{Does}
+use Rattle.ds_kernel.specs.Inner.Parts.{held, own_of, with_counts_of}
+use Rattle.ds_kernel.specs.Inner.Good.{IsOrderly, IsGood}
+use Rattle.ds_kernel.specs.Inner.Ended.{DoesStep}
 use Rattle.ds_kernel.proofs.Doing.{owed_small}
 
 pub none_is_not_some : (o : Option Turn) → o ≡ None → IsSome o → ⊥
 none_is_not_some o none some = let no : false ≡ true = sym (ap is_some none) ∙ some in absurd (cc)
 
-pub sound_behind : (kind : Step) (h new : Held) → IsSound h → Follows kind h new → IsSound new
-sound_behind kind h new s f = let t = f.follows s.state s.stands in record { state = t.0; stands = t.2 }
+pub sound_after : (kind : Step) (h new : Held) → IsSound h → Follows kind h new → IsSound new
+sound_after kind h new s f = let t = f.follows s.state s.stands in record { state = t.0; stands = t.2 }
 
 -- a failure leaves the station as it should be
 pub failed_good : {L : Type 0} (old new : Parts L) → IsGood old → old.monitor.owed ≡ None → held new ≡ with_failure (held old)
@@ -115,10 +117,10 @@ module _ (h : Held) (sound : IsSound h) (orderly : IsOrderly h) (working : h.own
   abbrev s : core.Step
   s = step h.core h.bus
 
-  abbrev behind : Event → Held
-  behind e = after_event e h s
+  abbrev afterwards : Event → Held
+  afterwards e = after_event e h s
 
-  follows : Follows (step_of s.event) h (behind s.event)
+  follows : Follows (step_of s.event) h (afterwards s.event)
   follows = step_follows h s refl unowed ready user word whole
 
   two_ticks : (b : Bool) → ticks_of b ≤ 2
@@ -133,7 +135,7 @@ module _ (h : Held) (sound : IsSound h) (orderly : IsOrderly h) (working : h.own
   unserved = user_unserved h.core user
 
   -- the machine follows, and it is real
-  pub instruction_does : Does (step_of s.event) h (behind s.event)
+  pub instruction_does : DoesStep (step_of s.event) h (afterwards s.event)
   instruction_does = record {
     follows = follows;
     moves = event_moves s.event h s unowed user (omega (arith, few));
@@ -145,7 +147,7 @@ module _ (h : Held) (sound : IsSound h) (orderly : IsOrderly h) (working : h.own
       let same : s.core.system ≡ h.core.system = keeps_system h.core h.bus (barred h.core 0 (user_status_of h sound user)) (ap is_raised at) in
       ap is_user same ∙ user
 
-  marks : (e : Event) → s.event ≡ e → IsOrderly (behind e)
+  marks : (e : Event) → s.event ≡ e → IsOrderly (afterwards e)
   marks Retired at =
       let tick : 1 ≤ ticks_of h.core.slot = some_tick h.core.slot in
       let lines : h.kept.lines + length h.kept.state.commands ≤ h.kept.state.time + 4096 = orderly.lines in
@@ -159,21 +161,21 @@ module _ (h : Held) (sound : IsSound h) (orderly : IsOrderly h) (working : h.own
         fresh = λ few. refl;
         lines = omega (arith, lines, tick);
         ticked = omega (arith, ticked, tick);
-        kept = turn_orderly h.kept (behind Retired).kept.state.time (behind Retired).kept.state.owed orderly.kept;
+        kept = turn_orderly h.kept (afterwards Retired).kept.state.time (afterwards Retired).kept.state.owed orderly.kept;
         early = (let most : ticks_of h.core.slot ≤ 2 = two_ticks h.core.slot in omega (arith, soon, most));
         rate = orderly.rate;
       }
   marks Branched at = inside_orderly h s.core s.bus (with_one_spent h.own) orderly unowed ready few refl (fresh_first h.own h.core.slot s.core.slot orderly.fresh)
   marks (Raised code) at = inside_orderly h s.core s.bus (with_one_spent h.own) orderly unowed ready few refl (fresh_first h.own h.core.slot s.core.slot orderly.fresh)
 
-  pub instruction_orderly : IsOrderly (behind s.event)
+  pub instruction_orderly : IsOrderly (afterwards s.event)
   instruction_orderly = marks s.event refl
 
-  pub instruction_sound : IsSound (behind s.event)
-  instruction_sound = sound_behind (step_of s.event) h (behind s.event) sound follows
+  pub instruction_sound : IsSound (afterwards s.event)
+  instruction_sound = sound_after (step_of s.event) h (afterwards s.event) sound follows
 
 -- nothing is left to do
-pub over_does : {L : Type 0} (old : Parts L) → old.monitor.owed ≡ None → old.monitor.ready ≡ [] → is_over (kept_of old.monitor).state ≡ true → Does Over (held old) (held old)
+pub over_does : {L : Type 0} (old : Parts L) → old.monitor.owed ≡ None → old.monitor.ready ≡ [] → is_over (kept_of old.monitor).state ≡ true → DoesStep Over (held old) (held old)
 over_does old unowed nobody over = record {
   follows = rests (held old) unowed over;
   moves = refl;
@@ -225,46 +227,46 @@ module _ {L : Type 0} (old between new : Parts L) (kind : Step) (good : IsGood o
   whole : is_raised stepped.event ≡ true → IsWhole stepped.core
   whole raised = subst IsWhole (ap (λ (x : Held). x.core) new_is ∙ core_after stepped.event) all
 
-  pub attempt_does : Does kind (held old) (held new)
+  pub attempt_does : DoesStep kind (held old) (held new)
   attempt_does =
-      subst (λ (k : Step). Does k (held old) (held new)) (sym (done stepped same_step).1)
-      (subst (Does (step_of stepped.event) (held old)) (sym new_is)
+      subst (λ (k : Step). DoesStep k (held old) (held new)) (sym (done stepped same_step).1)
+      (subst (DoesStep (step_of stepped.event) (held old)) (sym new_is)
       (instruction_does (held old) good.sound good.orderly working unowed ready user word few soon whole))
 
-  monitor_behind : new.monitor ≡ record between.monitor { time = new.monitor.time; owed = new.monitor.owed }
-  monitor_behind = ap (λ (x : Parts L). x.monitor) rest
+  monitor_after : new.monitor ≡ record between.monitor { time = new.monitor.time; owed = new.monitor.owed }
+  monitor_after = ap (λ (x : Parts L). x.monitor) rest
 
   between_time : between.monitor.time ≡ old.monitor.time
   between_time = ap (λ (x : Held). x.kept.state.time) begun
 
-  time_behind : new.monitor.time ≡ (after_event stepped.event (held old) stepped).kept.state.time
-  time_behind = ap (λ (x : Held). x.kept.state.time) new_is
+  time_after : new.monitor.time ≡ (after_event stepped.event (held old) stepped).kept.state.time
+  time_after = ap (λ (x : Held). x.kept.state.time) new_is
 
   -- where a unit goes on no tick is over
-  unit_room_behind : 0 < new.spent → HasTurnRoom new.monitor
-  unit_room_behind some =
-      let same : new.monitor.time ≡ between.monitor.time = time_behind ∙ (inside_time stepped.event (held old) stepped (subst (λ (n : ℕ). 0 < n) (ap (λ (x : Held). x.own.spent) new_is) some) ∙ sym between_time) in
-      subst HasTurnRoom (sym monitor_behind) (turn_room_still between.monitor new.monitor.time new.monitor.owed same room)
+  unit_room_after : 0 < new.spent → HasTurnRoom new.monitor
+  unit_room_after some =
+      let same : new.monitor.time ≡ between.monitor.time = time_after ∙ (inside_time stepped.event (held old) stepped (subst (λ (n : ℕ). 0 < n) (ap (λ (x : Held). x.own.spent) new_is) some) ∙ sym between_time) in
+      subst HasTurnRoom (sym monitor_after) (turn_room_still between.monitor new.monitor.time new.monitor.owed same room)
 
   boundary_room_then : HasBoundaryRoom new.monitor
   boundary_room_then =
       let most : (after_event stepped.event (held old) stepped).kept.state.time ≤ old.monitor.time + 2 = event_time stepped.event (held old) stepped in
-      let time = time_behind in
+      let time = time_after in
       let before = between_time in
-      subst HasBoundaryRoom (sym monitor_behind) (boundary_room between.monitor new.monitor.time new.monitor.owed (omega (arith, most, time, before)) room)
+      subst HasBoundaryRoom (sym monitor_after) (boundary_room between.monitor new.monitor.time new.monitor.owed (omega (arith, most, time, before)) room)
 
   pub attempt_good : IsGood new
   attempt_good = record {
     sound = subst IsSound (sym new_is) (instruction_sound (held old) good.sound good.orderly working unowed ready user word few soon whole);
     orderly = subst IsOrderly (sym new_is) (instruction_orderly (held old) good.sound good.orderly working unowed ready user word few soon whole);
-    room = unit_room_behind;
+    room = unit_room_after;
     owed = λ some. boundary_room_then;
     next =
         ap (λ (x : Parts L). x.monitor.quiet_until) rest
         ∙ (until ∙ (good.next ∙ sym (ap (λ (x : Parts L). next_due (kept_of x.monitor)) rest ∙ ap (λ (x : Held). next_due x.kept) begun)));
   }
 
-pub at_seventh : (pc : ℕ) → (pc == address_of 6) ≡ true → pc ≡ address_of 6
+pub at_seventh : (pc : ℕ) → (pc == handler_address 6) ≡ true → pc ≡ handler_address 6
 at_seventh pc is = grind (arith, nat_tests)
 
 -- A word of the refill handler, counted and done.
@@ -281,8 +283,8 @@ module _ {L : Type 0} (old between new : Parts L) (good : IsGood old) (unowed : 
   word_joins : Follows Inside (held old) (after_word (held old) worded)
   word_joins = word_follows (held old) ready kernel unserved
 
-  pub word_does : Does Inside (held old) (held new)
-  word_does = subst (Does Inside (held old)) (sym word_is) (record {
+  pub word_does : DoesStep Inside (held old) (held new)
+  word_does = subst (DoesStep Inside (held old)) (sym word_is) (record {
     follows = word_joins;
     moves = word_moves (held old) worded unowed kernel unserved (omega (arith, few));
     real = word_real (held old) (unowed, ready) unserved;
@@ -296,7 +298,7 @@ module _ {L : Type 0} (old between new : Parts L) (good : IsGood old) (unowed : 
 
   pub word_good : IsGood new
   word_good = record {
-    sound = subst IsSound (sym word_is) (sound_behind Inside (held old) (after_word (held old) worded) good.sound word_joins);
+    sound = subst IsSound (sym word_is) (sound_after Inside (held old) (after_word (held old) worded) good.sound word_joins);
     orderly = subst IsOrderly (sym word_is) (inside_orderly (held old) worded.core worded.bus (after_word (held old) worded).own good.orderly unowed ready few (word_spent (touches old.core) old.core.random (counts_of (own_of old)))
         (λ first. absurd (never_first worded.core.slot old.spent _ (good.orderly.raised kernel) (word_spent (touches old.core) old.core.random (counts_of (own_of old))) first)));
     room = λ some. subst HasTurnRoom (sym monitor_then) room;

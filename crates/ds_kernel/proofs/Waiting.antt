@@ -5,7 +5,7 @@ use Rattle.std.proofs.lemmas.Bool.Decides.{nat_tests}
 use Rattle.std.proofs.lemmas.Nat.{pow_pos}
 use Rattle.std.proofs.Math.Nat.{div-lt_iff_lt-mul}
 use Rattle.ds_pagemap.specs.Boundary.{has_passed}
-use Rattle.ds_monitor.specs.Coming.{never, first_time, period_end}
+use Rattle.ds_monitor.specs.Inner.Coming.{never, first_time, period_end}
 
 -- where none is due, it is before the first
 pub due_later : {X : Type 0} (time : X → ℕ) (now : ℕ) (xs : List X) → now < never → filter (λ (x : X). nat_le (time x) now) xs ≡ [] → now < first_time time xs

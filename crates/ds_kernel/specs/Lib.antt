@@ -1,14 +1,1 @@
-pub mod Parts
-pub mod Seats
-pub mod Places
-pub mod Good
-pub mod Ended
-pub mod Devices
-pub mod Attended
-pub mod Halts
-pub mod Ran
-pub mod Going
-pub mod Refilled
-pub mod AtOnce
-pub mod InBlock
-pub mod Idling
+pub mod Inner

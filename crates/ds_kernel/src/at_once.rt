@@ -2,10 +2,10 @@
 //! turn, which has nothing to do, is over with it.
 ghost use Rattle.std.specs.Prelude.{◌≡◌, ◌+◌, ◌%◌, ◌<◌, ◌≤◌, ◌≢◌, None, [], true, false, slice_index};
 ghost use Rattle.ds_cp0.specs.System.{is_user};
-ghost use Rattle.ds_ahead.specs.Ahead.{owed_tick};
-ghost use Rattle.ds_monitor.specs.Room.{HasLogRoom};
-ghost use Rattle.ds_kernel.specs.Good.{IsBusy, IsGood};
-ghost use Rattle.ds_kernel.specs.AtOnce.{IsCalled, IsQuietCall, IsAnswered, MayGoOn};
+ghost use Rattle.ds_ahead.specs.Inner.Ahead.{owed_tick};
+ghost use Rattle.ds_monitor.specs.Inner.Room.{HasLogRoom};
+ghost use Rattle.ds_kernel.specs.Inner.Good.{IsBusy, IsGood};
+ghost use Rattle.ds_kernel.specs.Inner.AtOnce.{IsCalled, IsQuietCall, IsAnswered, MayGoOn};
 
 use crate::parts::Parts;
 use ds_tlb::Lookaside;
@@ -32,12 +32,12 @@ impl<L: Lookaside> Parts<L> {
         requires number { slice_index self.old.core.registers.general 2 ≡ 1 }
         ensures { IsAnswered self.old self.new }
     {
-        self.look_at_unit(process);
-        self.look_at_line(process);
-        self.monitor.due.look_at_order();
+        self.show_busy_unit(process);
+        self.show_line_below_4(process);
+        self.monitor.due.show_events_in_order();
         let byte = self.first_argument();
         self.monitor.put(process, byte, &mut self.bus);
-        self.go_on_behind_call(0);
+        self.go_on_after_call(0);
     }
 
     /// The process that runs has got a character, or the answer that there is none.
@@ -47,11 +47,11 @@ impl<L: Lookaside> Parts<L> {
         requires number { slice_index self.old.core.registers.general 2 ≡ 2 }
         ensures { IsAnswered self.old self.new }
     {
-        self.look_at_unit(process);
-        self.look_at_line(process);
-        self.monitor.due.look_at_order();
+        self.show_busy_unit(process);
+        self.show_line_below_4(process);
+        self.monitor.due.show_events_in_order();
         let answer = self.monitor.take_answer(process);
-        self.go_on_behind_call(answer);
+        self.go_on_after_call(answer);
     }
 
     /// Whether the call that waits is a put or a get outside the slot of a branch, which is then
@@ -88,7 +88,7 @@ impl<L: Lookaside> Parts<L> {
         requires log { HasLogRoom 1 self.now.monitor }
         ensures { result ≡ true → MayGoOn end self.now }
     {
-        self.monitor.due.look_at_order();
+        self.monitor.due.show_events_in_order();
         self.monitor.time + 1 < end && self.monitor.consoles.have_room()
     }
 }

@@ -1,6 +1,6 @@
 //! The unit goes on: the processor is back in user mode at the unit's address.
 ghost use Rattle.std.specs.Prelude.{◌≡◌};
-ghost use Rattle.ds_refinement.specs.Services.{at_unit, touched_registers};
+ghost use Rattle.ds_refinement.specs.Inner.Services.{at_unit, touched_registers};
 
 use crate::parts::Parts;
 use crate::seats::USER_STATUS;

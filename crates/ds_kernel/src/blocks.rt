@@ -4,20 +4,21 @@ ghost use Rattle.ds_cp0.specs.declared.exception.ExceptionCode.TheVariants as ex
 ghost use Rattle.ds_core.specs.Core.{with_tick, trapped};
 ghost use Rattle.ds_core.specs.Effect.{step};
 ghost use Rattle.ds_ahead.specs.declared.next.Next.TheVariants.{Call, Plain};
-ghost use Rattle.ds_ahead.specs.Ahead.{hardware_of, after_steps, AdvancesTo, owed_tick};
-ghost use Rattle.ds_refinement.specs.Blocks.{MayRunAhead, counts_behind};
-ghost use Rattle.ds_refinement.specs.Counts.{IsFresh, fresh, one_more, with_counts};
-ghost use Rattle.ds_refinement.specs.Services.{with_failure};
-ghost use Rattle.ds_monitor.specs.Room.{HasLogRoom, HasRoom, has_turn_room};
-ghost use Rattle.ds_kernel.specs.Parts.{held, own_of, with_counts_of};
-ghost use Rattle.ds_kernel.specs.Good.{IsGood};
-ghost use Rattle.ds_kernel.specs.Going.{GoesOn};
-ghost use Rattle.ds_kernel.specs.AtOnce.{IsCalled};
-ghost use Rattle.ds_kernel.specs.Halts.{Halts};
+ghost use Rattle.ds_ahead.specs.Inner.Ahead.{hardware_of, after_steps, AdvancesTo, owed_tick};
+ghost use Rattle.ds_refinement.specs.Inner.Blocks.{MayRunAhead, counts_beyond};
+ghost use Rattle.ds_refinement.specs.Counts.{fresh_counts, one_more};
+ghost use Rattle.ds_refinement.specs.Inner.Counts.{IsFresh, with_counts};
+ghost use Rattle.ds_refinement.specs.Inner.Services.{with_failure};
+ghost use Rattle.ds_monitor.specs.Inner.Room.{HasLogRoom, HasRoom, has_turn_room};
+ghost use Rattle.ds_kernel.specs.Inner.Parts.{held, own_of, with_counts_of};
+ghost use Rattle.ds_kernel.specs.Inner.Good.{IsGood};
+ghost use Rattle.ds_kernel.specs.Inner.Going.{GoesOn};
+ghost use Rattle.ds_kernel.specs.Inner.AtOnce.{IsCalled};
+ghost use Rattle.ds_kernel.specs.Inner.Halts.{Halts};
 
 use crate::halt::Halt;
 use crate::parts::Parts;
-use ds_ahead::{Ahead, Next, go_on};
+use ds_ahead::{Ahead, Next, go_past_ride};
 use ds_cp0::ExceptionCode;
 use ds_tlb::Lookaside;
 
@@ -78,7 +79,7 @@ impl<L: Lookaside> Parts<L> {
         if self.monitor.time >= n || self.monitor.owed.is_some() {
             return None;
         }
-        self.monitor.due.look_at_order();
+        self.monitor.due.show_events_in_order();
         let before = self.slot_tick();
         let last = self.monitor.quiet_until.saturating_sub(u64::from(before));
         let end = n.min(last);
@@ -130,7 +131,7 @@ impl<L: Lookaside> Parts<L> {
     #[inline(always)]
     fn count_anew(&mut self, slot: bool)
         ensures own { own_of self.new ≡ with_counts (own_of self.old)
-            (record (fresh (own_of self.old).wired) { spent = owed_tick slot }) }
+            (record (fresh_counts (own_of self.old).wired) { spent = owed_tick slot }) }
         ensures rest { self.new ≡ with_counts_of self.new self.old }
     {
         self.count_none();
@@ -146,7 +147,7 @@ impl<L: Lookaside> Parts<L> {
         requires spent { self.old.spent ≤ 64 }
         requires since { self.old.since < 56 }
         ensures own { own_of self.new ≡ with_counts (own_of self.old)
-            (counts_behind (ticks + owed_tick slot - before) ticks slot (own_of self.old)) }
+            (counts_beyond (ticks + owed_tick slot - before) ticks slot (own_of self.old)) }
         ensures rest { self.new ≡ with_counts_of self.new self.old }
     {
         if ticks > 0 {
@@ -168,7 +169,7 @@ impl<L: Lookaside> Parts<L> {
         requires spent { self.old.spent ≤ 64 }
         requires since { self.old.since < 56 }
         ensures own { own_of self.new ≡ with_counts (own_of self.old)
-            (counts_behind steps (steps + before - owed_tick slot) slot (own_of self.old)) }
+            (counts_beyond steps (steps + before - owed_tick slot) slot (own_of self.old)) }
         ensures rest { self.new ≡ record (with_counts_of self.new self.old) {
           monitor = record self.old.monitor {
             time = self.old.monitor.time + (steps + before - owed_tick slot);
@@ -194,7 +195,7 @@ impl<L: Lookaside> Parts<L> {
         requires spent { self.old.spent ≤ 61 }
         requires since { self.old.since < 56 }
         ensures own { own_of self.new ≡ with_counts (own_of self.old)
-            (one_more (counts_behind steps (steps + before - owed_tick slot) slot (own_of self.old))) }
+            (one_more (counts_beyond steps (steps + before - owed_tick slot) slot (own_of self.old))) }
         ensures rest { self.new ≡ record (with_counts_of self.new self.old) {
           monitor = record self.old.monitor {
             time = self.old.monitor.time + (steps + before - owed_tick slot);
@@ -214,7 +215,7 @@ impl<L: Lookaside> Parts<L> {
     /// Takes what comes where a ride ended, or where none was: a plain step at least where none made
     /// way, and `left` at most.
     #[inline(always)]
-    fn go_on(&mut self, next: Next, went: bool, left: u32) -> Ahead
+    fn go_past_ride(&mut self, next: Next, went: bool, left: u32) -> Ahead
         requires slots { L.SLOTS ≡ 64 }
         requires wired { L.WIRED ≡ 8 }
         requires some { next ≡ Call → 0 < left }
@@ -234,7 +235,7 @@ impl<L: Lookaside> Parts<L> {
             (hardware_of self.old.core self.old.bus)).core.pc < 2 ^ 32) }
         ensures rest { self.new ≡ record self.old { core = self.new.core; bus = self.new.bus } }
     {
-        go_on(&mut self.core, &mut self.bus, next, went, left)
+        go_past_ride(&mut self.core, &mut self.bus, next, went, left)
     }
 
     /// Takes so many instructions, or fewer and then one that raises an exception, or fewer and
@@ -269,16 +270,16 @@ impl<L: Lookaside> Parts<L> {
             let Some(next) = self.ride(n, end, &mut left, &mut mark, &mut before) else {
                 return false;
             };
-            let went = self.go_on(next, left < all, left);
+            let went = self.go_past_ride(next, left < all, left);
             left -= went.steps;
             if let Some(code) = went.raised {
-                self.look_at_processor();
+                self.show_whole_processor();
                 let slot = self.is_delayed();
                 self.count_raised(mark - before - left, before, slot);
                 return is_call(code);
             }
         }
-        self.look_at_program();
+        self.show_pc_has_32_bits();
         let slot = self.is_in_slot();
         self.count_block(mark - before, before, slot);
         false

@@ -1,17 +1,17 @@
 //! The boundary after a turn: it has nothing to do, or it is served.
 ghost use Rattle.std.specs.Prelude.{◌≡◌, ◌+◌, ◌<◌, ◌≤◌, ◌^◌, length, map, All, IsSome};
-ghost use Rattle.ds_grants.specs.Represented.{IsLow, Keeps};
+ghost use Rattle.ds_grants.specs.Inner.Represented.{IsLow, Keeps};
 ghost use Rattle.ds_refinement.specs.Pairs.{HasNoNewPairs};
-ghost use Rattle.ds_refinement.specs.Services.{Serves, seated};
-ghost use Rattle.ds_monitor.specs.Kept.{kept_of, kept_after};
-ghost use Rattle.ds_monitor.specs.Commands.{with_ends, commanded};
-ghost use Rattle.ds_monitor.specs.Orderly as monitor;
-ghost use Rattle.ds_monitor.specs.Room.{HasBoundaryRoom};
-ghost use Rattle.ds_kernel.specs.Parts.{held};
-ghost use Rattle.ds_kernel.specs.Good.{IsGood};
-ghost use Rattle.ds_kernel.specs.Devices.{IsOfLine, TellsReceived, typed, emptied};
+ghost use Rattle.ds_refinement.specs.Inner.Services.{Serves, seated};
+ghost use Rattle.ds_monitor.specs.Inner.Kept.{kept_of, kept_after};
+ghost use Rattle.ds_monitor.specs.Inner.Commands.{with_ends, commanded};
+ghost use Rattle.ds_monitor.specs.Inner.Orderly as monitor;
+ghost use Rattle.ds_monitor.specs.Inner.Room.{HasBoundaryRoom};
+ghost use Rattle.ds_kernel.specs.Inner.Parts.{held};
+ghost use Rattle.ds_kernel.specs.Inner.Good.{IsGood};
+ghost use Rattle.ds_kernel.specs.Inner.Devices.{IsOfLine, TellsReceived, typed, emptied};
 ghost use Rattle.ds_dev.specs.Bus.{with_serial};
-ghost use Rattle.ds_kernel.specs.Attended.{runner_of, unowed, heard, shared, ruled, read_out, HasAttended, IsBounded};
+ghost use Rattle.ds_kernel.specs.Inner.Attended.{runner_of, unowed, heard, shared, ruled, read_out, HasAttended, IsBounded};
 
 use crate::devices::read_clock;
 use crate::parts::Parts;
@@ -234,7 +234,7 @@ impl<L: Lookaside> Parts<L> {
         requires early { self.old.monitor.time < 2 ^ 62 }
         ensures { HasAttended self.old self.new }
     {
-        self.monitor.due.look_at_order();
+        self.monitor.due.show_events_in_order();
         self.arrive();
         self.serve_turn();
         self.monitor.look_ahead();
@@ -251,7 +251,7 @@ impl<L: Lookaside> Parts<L> {
         ensures bounded { IsBounded (held self.old) (held self.new) }
         ensures good { IsGood self.new }
     {
-        self.monitor.due.look_at_order();
+        self.monitor.due.show_events_in_order();
         if self.monitor.time < self.monitor.quiet_until {
             self.monitor.owed = None;
         } else {

@@ -3,7 +3,7 @@ ghost use Rattle.std.specs.Prelude.{◌≡◌, ◌==◌, ◌<◌, ◌≤◌, ◌
 ghost use Rattle.ds_grants.specs.State.{frame_of_page, page_state};
 ghost use Rattle.ds_grants.specs.Sound.{NamesPages};
 ghost use Rattle.ds_refinement.specs.Told.{code_in, is_delayed, own_in, kind_told, size_told, size_at, told};
-ghost use Rattle.ds_kernel.specs.Places.{place_of};
+ghost use Rattle.ds_kernel.specs.Inner.Places.{place_in_memory};
 
 use crate::parts::Parts;
 use ds_cp0::register;
@@ -91,10 +91,10 @@ impl<L: Lookaside> Parts<L> {
 
     /// Where the instruction of a process at an address lies in memory, if the table lets the
     /// process fetch it.
-    fn place_of(&self, process: u32, address: u32) -> Option<u32>
+    fn place_in_memory(&self, process: u32, address: u32) -> Option<u32>
         requires above { 0 < process }
         requires within { process ≤ length self.now.monitor.grants.table }
-        ensures value { result ≡ place_of self.now.monitor.grants process address }
+        ensures value { result ≡ place_in_memory self.now.monitor.grants process address }
         ensures inside { IfSome result (λ place. place < 2 ^ 23) }
         ensures pages { NamesPages self.now.monitor.grants }
     {
@@ -117,7 +117,7 @@ impl<L: Lookaside> Parts<L> {
             ≡ size_at (page_state self.old.monitor.grants self.old.bus.memory) process address }
         ensures same { self.new ≡ self.old }
     {
-        match self.place_of(process, address) {
+        match self.place_in_memory(process, address) {
             Some(place) => {
                 let instr = self.bus.fetch(place);
                 access_size(&instr).unwrap_or(Size::Word)

@@ -5,18 +5,20 @@ ghost use Rattle.ds_mem.specs.Memory.{frame_of};
 ghost use Rattle.ds_policy.specs.declared.grant.Grant.{Grant};
 ghost use Rattle.ds_policy.specs.declared.grant.Right.TheVariants.{Write};
 ghost use Rattle.ds_policy.specs.Pages.{entry_at, page_address};
-ghost use Rattle.ds_grants.specs.Counts.{page_of};
-ghost use Rattle.ds_grants.specs.State.{IsAsLarge, page_state};
+ghost use Rattle.ds_grants.specs.Inner.Counts.{page_of};
+ghost use Rattle.ds_grants.specs.State.{page_state};
+ghost use Rattle.ds_grants.specs.Inner.State.{IsAsLarge};
 ghost use Rattle.ds_grants.specs.Sound.{NamesPages};
 ghost use Rattle.ds_grants.specs.Copies.{AreRewritten};
-ghost use Rattle.ds_grants.specs.Represented.{Keeps};
+ghost use Rattle.ds_grants.specs.Inner.Represented.{Keeps};
 ghost use Rattle.ds_refinement.specs.Units.{is_served, has_left_user};
 ghost use Rattle.ds_refinement.specs.Copying.{AwaitsCopy};
-ghost use Rattle.ds_refinement.specs.Counts.{counts_of, with_counts, one_copied};
-ghost use Rattle.ds_refinement.specs.Services.{IsCopied};
-ghost use Rattle.ds_kernel.specs.Parts.{held, own_of, with_counts_of};
-ghost use Rattle.ds_kernel.specs.Good.{IsBusy, IsGood};
-ghost use Rattle.ds_kernel.specs.Ended.{Does};
+ghost use Rattle.ds_refinement.specs.Counts.{counts_of, one_copied};
+ghost use Rattle.ds_refinement.specs.Inner.Counts.{with_counts};
+ghost use Rattle.ds_refinement.specs.Inner.Services.{IsCopied};
+ghost use Rattle.ds_kernel.specs.Inner.Parts.{held, own_of, with_counts_of};
+ghost use Rattle.ds_kernel.specs.Inner.Good.{IsBusy, IsGood};
+ghost use Rattle.ds_kernel.specs.Inner.Ended.{DoesStep};
 
 use crate::parts::Parts;
 use ds_refinement::Step;
@@ -98,10 +100,10 @@ impl<L: Lookaside> Parts<L> {
           bus = self.new.bus;
           monitor = record self.old.monitor { grants = self.new.monitor.grants };
         } }
-        ensures does { Does result (held self.old) (held self.new) }
+        ensures does { DoesStep result (held self.old) (held self.new) }
         ensures good { IsGood self.new }
     {
-        self.look_at_unit(process);
+        self.show_busy_unit(process);
         self.give_own_frame(process);
         self.count_copy();
         self.go_back();

@@ -1,8 +1,9 @@
 //! What is counted of the unit that goes on.
 ghost use Rattle.std.specs.Prelude.{◌≡◌, ◌<◌, ◌≤◌, ◌∷◌, length};
-ghost use Rattle.ds_refinement.specs.Counts.{counts_of, with_counts, one_more, one_written, one_tabled, one_refilled};
-ghost use Rattle.ds_refinement.specs.Services.{with_none_spent, with_one_spent};
-ghost use Rattle.ds_kernel.specs.Parts.{own_of, with_counts_of};
+ghost use Rattle.ds_refinement.specs.Counts.{counts_of, one_more, one_written, one_tabled};
+ghost use Rattle.ds_refinement.specs.Inner.Counts.{with_counts, one_refilled};
+ghost use Rattle.ds_refinement.specs.Inner.Services.{with_none_spent, with_one_spent};
+ghost use Rattle.ds_kernel.specs.Inner.Parts.{own_of, with_counts_of};
 
 use crate::parts::Parts;
 use ds_tlb::Lookaside;
@@ -20,7 +21,7 @@ const REFILL_STEPS: u8 = 9;
 const LAST_WIRED: u32 = 7;
 
 /// There is a place for each refill of a unit.
-fn look_at_places(places: &[u8; 4])
+fn show_4_places(places: &[u8; 4])
     ensures { length places.now ≡ 4 }
 {
     let _last = places[3];
@@ -48,7 +49,7 @@ impl<L: Lookaside> Parts<L> {
         ensures own { own_of self.new ≡ with_one_spent (own_of self.old) }
         ensures rest { self.new ≡ with_counts_of self.new self.old }
     {
-        look_at_places(&self.written);
+        show_4_places(&self.written);
         self.spent += 1;
         if self.refills > 0 {
             self.since += 1;
@@ -65,7 +66,7 @@ impl<L: Lookaside> Parts<L> {
         ensures rest { self.new
             ≡ record self.old { written = self.new.written; refills = self.new.refills } }
     {
-        look_at_places(&self.written);
+        show_4_places(&self.written);
         let [first, second, third, _] = self.written;
         self.written = [slot as u8, first, second, third];
         self.refills += 1;
@@ -98,7 +99,7 @@ impl<L: Lookaside> Parts<L> {
             ≡ with_counts (own_of self.old) (one_refilled slot (counts_of (own_of self.old))) }
         ensures rest { self.new ≡ with_counts_of self.new self.old }
     {
-        look_at_places(&self.written);
+        show_4_places(&self.written);
         self.spent += REFILL_WORDS;
         self.since += if self.refills > 0 {
             REFILL_STEPS

@@ -3,13 +3,14 @@
 ghost use Rattle.std.specs.Prelude.{◌≡◌, ◌-◌, ◌<◌, ◌≤◌, ◌^◌, true, length, map, All};
 ghost use Rattle.ds_dev.specs.Serial.{read_silo};
 ghost use Rattle.ds_dev.specs.Clock.{read_flags};
-ghost use Rattle.ds_dev.specs.Bus.{with_clock, with_serial, after_ticks, asks};
+ghost use Rattle.ds_dev.specs.Bus.{with_clock, with_serial, after_ticks};
+ghost use Rattle.ds_dev.specs.Inner.Bus.{asks};
 ghost use Rattle.ds_pagemap.specs.Machine.{State};
 ghost use Rattle.ds_pagemap.specs.Boundary.{all_queued};
 ghost use Rattle.ds_pagemap_laws.specs.Due.{come};
-ghost use Rattle.ds_monitor.specs.Kept.{kept_of, kept_after};
-ghost use Rattle.ds_kernel.specs.Devices.{IsOfLine, oldest, all_received, typed, emptied, interrupted};
-ghost use Rattle.ds_kernel.specs.Attended.{to_come, bus_at};
+ghost use Rattle.ds_monitor.specs.Inner.Kept.{kept_of, kept_after};
+ghost use Rattle.ds_kernel.specs.Inner.Devices.{IsOfLine, oldest, all_received, typed, emptied, interrupted};
+ghost use Rattle.ds_kernel.specs.Inner.Attended.{to_come, bus_at};
 
 use crate::parts::Parts;
 use ds_core::Core;

@@ -3,11 +3,12 @@
 ghost use Rattle.std.specs.Prelude.{◌≡◌, ◌≤◌, true, false, slice_set};
 ghost use Rattle.ds_word.specs.Word.{bits};
 ghost use Rattle.ds_refinement.specs.Units.{is_served, has_left_user};
-ghost use Rattle.ds_refinement.specs.Services.{table_entry, with_table_page};
-ghost use Rattle.ds_refinement.specs.Counts.{IsFew, counts_of, with_counts, one_tabled};
-ghost use Rattle.ds_kernel.specs.Parts.{held, own_of, with_counts_of};
-ghost use Rattle.ds_kernel.specs.Good.{IsBusy, IsGood};
-ghost use Rattle.ds_kernel.specs.Ended.{Does};
+ghost use Rattle.ds_refinement.specs.Inner.Services.{table_entry, with_table_page};
+ghost use Rattle.ds_refinement.specs.Counts.{counts_of, one_tabled};
+ghost use Rattle.ds_refinement.specs.Inner.Counts.{IsFew, with_counts};
+ghost use Rattle.ds_kernel.specs.Inner.Parts.{held, own_of, with_counts_of};
+ghost use Rattle.ds_kernel.specs.Inner.Good.{IsBusy, IsGood};
+ghost use Rattle.ds_kernel.specs.Inner.Ended.{DoesStep};
 
 use crate::parts::Parts;
 use ds_cp0::register;
@@ -63,7 +64,7 @@ impl<L: Lookaside> Parts<L> {
         ensures rest { self.new ≡ record (with_counts_of self.new self.old) {
           core = self.new.core;
         } }
-        ensures does { Does result (held self.old) (held self.new) }
+        ensures does { DoesStep result (held self.old) (held self.new) }
         ensures good { IsGood self.new }
     {
         self.put_table_entry(process);

@@ -6,8 +6,8 @@ ghost use Rattle.ds_policy.specs.InputFacts.{AreGoodCommands};
 ghost use Rattle.ds_pagemap.specs.First.{first_state};
 ghost use Rattle.ds_refinement.specs.Stands.{Stands};
 ghost use Rattle.ds_refinement.specs.First.{first_system, first_core, first_bus, IsFirst};
-ghost use Rattle.ds_kernel.specs.Parts.{held};
-ghost use Rattle.ds_kernel.specs.Good.{IsGood};
+ghost use Rattle.ds_kernel.specs.Inner.Parts.{held};
+ghost use Rattle.ds_kernel.specs.Inner.Good.{IsGood};
 
 use crate::parts::Parts;
 use crate::seats::{USER_STATUS, entry_hi_of};
@@ -137,7 +137,7 @@ impl<L: Lookaside> Parts<L> {
             tables: 0,
             services: 0,
         };
-        parts.look_at_processor();
+        parts.show_whole_processor();
         Ok(parts)
     }
 }

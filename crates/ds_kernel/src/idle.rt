@@ -1,14 +1,14 @@
 //! Turns in which no process runs, many at once.
 ghost use Rattle.std.specs.Prelude.{◌≡◌, ◌+◌, ◌<◌, ◌≤◌, ℕ, true, false, IfSome};
-ghost use Rattle.ds_monitor.specs.Coming.{next_due};
-ghost use Rattle.ds_monitor.specs.Kept.{kept_of};
-ghost use Rattle.ds_kernel.specs.Parts.{held};
-ghost use Rattle.ds_kernel.specs.Good.{IsGood};
-ghost use Rattle.ds_kernel.specs.Going.{GoesOn};
-ghost use Rattle.ds_kernel.specs.Idling.{idled, MayIdle};
+ghost use Rattle.ds_monitor.specs.Inner.Coming.{next_due};
+ghost use Rattle.ds_monitor.specs.Inner.Kept.{kept_of};
+ghost use Rattle.ds_kernel.specs.Inner.Parts.{held};
+ghost use Rattle.ds_kernel.specs.Inner.Good.{IsGood};
+ghost use Rattle.ds_kernel.specs.Inner.Going.{GoesOn};
+ghost use Rattle.ds_kernel.specs.Inner.Idling.{idled, MayIdle};
 ghost use Rattle.ds_refinement.specs.Held.{Held};
 ghost use Rattle.ds_refinement.specs.Runs.{held_goes_on};
-ghost use Rattle.ds_refinement.specs.Stands.{IsSound};
+ghost use Rattle.ds_refinement.specs.Inner.Stands.{IsSound};
 
 use crate::devices::read_clock;
 use crate::parts::Parts;
@@ -36,7 +36,7 @@ impl<L: Lookaside> Parts<L> {
         if self.monitor.owed.is_some() || self.monitor.first_ready().is_some() {
             return None;
         }
-        self.monitor.due.look_at_order();
+        self.monitor.due.show_events_in_order();
         let comes = self.monitor.due.next_time().min(self.monitor.ends);
         let end = n.min(comes.saturating_sub(1));
         if self.monitor.time < end {

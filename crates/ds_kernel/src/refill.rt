@@ -1,13 +1,13 @@
 //! A whole refill at once, where a page of the process that runs was missed.
 ghost use Rattle.std.specs.Prelude.{◌≡◌, ◌≢◌, ℕ, ◌+◌, ◌<◌, [], true, false};
 ghost use Rattle.ds_cp0.specs.System.{is_user};
-ghost use Rattle.ds_refill.specs.Refill.{handler_events};
-ghost use Rattle.ds_refill.specs.Refills.{RunsInside};
+ghost use Rattle.ds_refill.specs.Inner.Refill.{handler_events};
+ghost use Rattle.ds_refill.specs.Inner.Refills.{RunsInside};
 ghost use Rattle.ds_refinement.specs.Held.{Held};
-ghost use Rattle.ds_kernel.specs.Parts.{held, with_counts_of};
-ghost use Rattle.ds_kernel.specs.Good.{IsGood};
-ghost use Rattle.ds_kernel.specs.Going.{GoesOn};
-ghost use Rattle.ds_kernel.specs.Refilled.{has_missed};
+ghost use Rattle.ds_kernel.specs.Inner.Parts.{held, with_counts_of};
+ghost use Rattle.ds_kernel.specs.Inner.Good.{IsGood};
+ghost use Rattle.ds_kernel.specs.Inner.Going.{GoesOn};
+ghost use Rattle.ds_kernel.specs.Inner.Refilled.{has_missed};
 
 use crate::parts::Parts;
 use ds_refill::refill_at_once;

@@ -7,21 +7,22 @@ ghost use Rattle.ds_cp0.specs.declared.exception.ExceptionCode.TheVariants.{Syst
 ghost use Rattle.ds_core.specs.Core.{with_tick, trapped};
 ghost use Rattle.ds_core.specs.Effect.{step};
 ghost use Rattle.ds_ahead.specs.declared.next.Next.TheVariants.{Call, Plain};
-ghost use Rattle.ds_ahead.specs.Ahead.{hardware_of, after_steps, Advances};
-ghost use Rattle.ds_ahead.specs.Ride.{ridden, Rides, IsPlaced, MayGoOn, behind_answer};
+ghost use Rattle.ds_ahead.specs.Inner.Ahead.{hardware_of, after_steps, Advances};
+ghost use Rattle.ds_ahead.specs.Inner.Ride.{ridden, Rides, IsPlaced, MayGoOn, after_answer};
 ghost use Rattle.ds_pagemap.specs.Machine.{State, process_of, first};
 ghost use Rattle.ds_pagemap.specs.Calls.{after_put, queue_of};
 ghost use Rattle.ds_pagemap_laws.specs.Lawful.{IsLawful};
-ghost use Rattle.ds_refinement.specs.Held.{Held, whole};
+ghost use Rattle.ds_refinement.specs.Held.{Held};
+ghost use Rattle.ds_refinement.specs.Inner.Held.{whole};
 ghost use Rattle.ds_refinement.specs.Units.{user_status};
-ghost use Rattle.ds_refinement.specs.Services.{with_none_spent};
-ghost use Rattle.ds_monitor.specs.Consoles as consoles;
-ghost use Rattle.ds_monitor.specs.Kept.{kept_of, kept_after};
-ghost use Rattle.ds_monitor.specs.Sending.{with_sent};
-ghost use Rattle.ds_monitor.specs.Taking.{got, with_taken};
-ghost use Rattle.ds_kernel.specs.Parts.{own_of, with_counts_of};
-ghost use Rattle.ds_kernel.specs.AtOnce.{IsQuietCall, IsAnswered};
-ghost use Rattle.ds_kernel.specs.InBlock.{InBlock, IsBehindCall, riding, at_call};
+ghost use Rattle.ds_refinement.specs.Inner.Services.{with_none_spent};
+ghost use Rattle.ds_monitor.specs.Inner.Consoles as consoles;
+ghost use Rattle.ds_monitor.specs.Inner.Kept.{kept_of, kept_after};
+ghost use Rattle.ds_monitor.specs.Inner.Sending.{with_sent};
+ghost use Rattle.ds_monitor.specs.Inner.Taking.{got, with_taken};
+ghost use Rattle.ds_kernel.specs.Inner.Parts.{own_of, with_counts_of};
+ghost use Rattle.ds_kernel.specs.Inner.AtOnce.{IsQuietCall, IsAnswered};
+ghost use Rattle.ds_kernel.specs.Inner.InBlock.{InBlock, IsBehindCall, riding, at_call};
 
 use crate::at_once::{GET, PUT};
 use crate::parts::Parts;
@@ -39,7 +40,7 @@ impl<L: Lookaside> Parts<L> {
         requires mark { ride.old.left ≤ mark.old }
         requires early { self.old.monitor.time ≤ 1000000000 }
         ensures core { ridden ride.new self.new.core
-            ≡ behind_answer (ridden ride.old self.old.core) answer }
+            ≡ after_answer (ridden ride.old self.old.core) answer }
         ensures rides { Rides ride.new self.new.core self.new.bus }
         ensures placed { IsPlaced ride.new }
         ensures left { ride.new.left + 1 ≡ ride.old.left }
@@ -53,7 +54,7 @@ impl<L: Lookaside> Parts<L> {
           };
         } }
     {
-        ride.go_behind_call(&mut self.core, answer);
+        ride.go_after_call(&mut self.core, answer);
         self.count_none();
         self.pass(*mark - ride.left);
         *mark = ride.left;
@@ -124,8 +125,8 @@ impl<L: Lookaside> Parts<L> {
         ensures time { self.new.monitor.time
             ≡ self.old.monitor.time + (mark.old - ride.new.left) }
     {
-        self.look_at_line(process);
-        self.monitor.due.look_at_order();
+        self.show_line_below_4(process);
+        self.monitor.due.show_events_in_order();
         self.put_character(process);
         self.go_on_in_ride(ride, 0, mark, before);
     }
@@ -154,8 +155,8 @@ impl<L: Lookaside> Parts<L> {
         ensures time { self.new.monitor.time
             ≡ self.old.monitor.time + (mark.old - ride.new.left) }
     {
-        self.look_at_line(process);
-        self.monitor.due.look_at_order();
+        self.show_line_below_4(process);
+        self.monitor.due.show_events_in_order();
         let answer = self.take_character(process);
         self.go_on_in_ride(ride, answer, mark, before);
     }
@@ -187,7 +188,7 @@ impl<L: Lookaside> Parts<L> {
             ≡ step (ridden ride.old self.old.core) self.old.bus }
         requires some { 0 < ride.old.left }
         requires rides { Rides ride.old self.old.core self.old.bus }
-        ensures behind { result ≡ true → (first : Held)
+        ensures afterwards { result ≡ true → (first : Held)
             → InBlock first n end mark.old ride.old.left before.old
             (ridden ride.old self.old.core) self.old
             → IsBehindCall first n end ride.new.left (riding ride.new self.new) }
@@ -202,7 +203,7 @@ impl<L: Lookaside> Parts<L> {
         let Some(process) = self.rider() else {
             return false;
         };
-        self.look_at_processor();
+        self.show_whole_processor();
         if !ride.may_go_on() {
             return false;
         }
@@ -216,13 +217,13 @@ impl<L: Lookaside> Parts<L> {
 
     /// Whether the block goes on behind a call, with so many steps left.
     #[inline(always)]
-    fn goes_on_behind(&self, left: u32) -> bool
+    fn goes_on_after(&self, left: u32) -> bool
         ensures some { result ≡ true → 0 < left }
         ensures room { result ≡ true → consoles.HasRoom self.now.monitor.consoles }
         ensures commands { IsNonDecreasingBy has_time self.now.monitor.due.commands }
         ensures order { IsNonDecreasingBy comes_at self.now.monitor.due.characters }
     {
-        self.monitor.due.look_at_order();
+        self.monitor.due.show_events_in_order();
         left > 0 && self.monitor.consoles.have_room()
     }
 
@@ -316,7 +317,7 @@ impl<L: Lookaside> Parts<L> {
             if !self.answer_in_ride(n, end, ride, mark, before) {
                 return Some(next);
             }
-            if !self.goes_on_behind(ride.left) {
+            if !self.goes_on_after(ride.left) {
                 return None;
             }
         }

@@ -1,18 +1,18 @@
 //! Runs of a station, by blocks of instructions where it can and by single steps elsewhere.
 ghost use Rattle.std.specs.Prelude.{◌≡◌, ◌⊎◌, ℕ, ◌+◌, ◌<◌, ◌≤◌, true, false, IfErr, OnOk, OnErr, IsOk, IsErrOf};
-ghost use Rattle.ds_ahead.specs.Ahead.{owed_tick};
+ghost use Rattle.ds_ahead.specs.Inner.Ahead.{owed_tick};
 ghost use Rattle.ds_refinement.specs.Held.{Held};
 ghost use Rattle.ds_refinement.specs.Units.{is_served};
 ghost use Rattle.ds_refinement.specs.Runs.{held_goes_on};
-ghost use Rattle.ds_refinement.specs.Services.{with_failure};
-ghost use Rattle.ds_kernel.specs.Parts.{held};
-ghost use Rattle.ds_kernel.specs.Good.{IsBusy, IsGood};
-ghost use Rattle.ds_kernel.specs.Going.{GoesOn};
-ghost use Rattle.ds_kernel.specs.Halts.{Halts};
-ghost use Rattle.ds_kernel.specs.AtOnce.{IsCalled, MayGoOn};
-ghost use Rattle.ds_monitor.specs.Room.{HasLogRoom, HasRoom, has_turn_room};
-ghost use Rattle.ds_refinement.specs.Blocks.{MayRunAhead};
-ghost use Rattle.ds_kernel.specs.Ran.{HasRun, WasCut};
+ghost use Rattle.ds_refinement.specs.Inner.Services.{with_failure};
+ghost use Rattle.ds_kernel.specs.Inner.Parts.{held};
+ghost use Rattle.ds_kernel.specs.Inner.Good.{IsBusy, IsGood};
+ghost use Rattle.ds_kernel.specs.Inner.Going.{GoesOn};
+ghost use Rattle.ds_kernel.specs.Inner.Halts.{Halts};
+ghost use Rattle.ds_kernel.specs.Inner.AtOnce.{IsCalled, MayGoOn};
+ghost use Rattle.ds_monitor.specs.Inner.Room.{HasLogRoom, HasRoom, has_turn_room};
+ghost use Rattle.ds_refinement.specs.Inner.Blocks.{MayRunAhead};
+ghost use Rattle.ds_kernel.specs.Inner.Ran.{HasRun, WasCut};
 
 use crate::halt::Halt;
 use crate::parts::Parts;

@@ -3,14 +3,14 @@ ghost use Rattle.std.specs.Prelude.{◌≡◌, ℕ, ◌+◌, ◌*◌, ◌^◌, �
 ghost use Rattle.ds_pagemap.specs.Machine.{State, Process, process_of, first};
 ghost use Rattle.ds_pagemap_laws.specs.Lawful.{AreRegisters, IsReady};
 ghost use Rattle.ds_grants.specs.Represented.{IsRepresented};
-ghost use Rattle.ds_asid.specs.Spaces.{number_of};
+ghost use Rattle.ds_asid.specs.Spaces.{space_number};
 ghost use Rattle.ds_refinement.specs.Handling.{IsWhole};
 ghost use Rattle.ds_refinement.specs.Pairs.{HasNoNewPairs};
-ghost use Rattle.ds_refinement.specs.Services.{resume_address, seated, EntersBy, with_none_spent};
-ghost use Rattle.ds_kernel.specs.Parts.{own_of, with_counts_of};
-ghost use Rattle.ds_monitor.specs.Kept.{kept_of};
-ghost use Rattle.ds_monitor.specs.Orderly as monitor;
-ghost use Rattle.ds_kernel.specs.Seats.{begun_at, behind_call, in_space, on_processor, AreAnswered};
+ghost use Rattle.ds_refinement.specs.Inner.Services.{resume_address, seated, EntersBy, with_none_spent};
+ghost use Rattle.ds_kernel.specs.Inner.Parts.{own_of, with_counts_of};
+ghost use Rattle.ds_monitor.specs.Inner.Kept.{kept_of};
+ghost use Rattle.ds_monitor.specs.Inner.Orderly as monitor;
+ghost use Rattle.ds_kernel.specs.Inner.Seats.{begun_at, past_call, in_space, on_processor, AreAnswered};
 
 use crate::parts::Parts;
 use ds_cp0::register;
@@ -30,7 +30,7 @@ pub(crate) fn entry_hi_of(number: u8) -> u32
 }
 
 /// There are 32 registers.
-fn look_at_size(registers: &[u32; 32])
+fn show_32_registers(registers: &[u32; 32])
     ensures { length registers.now ≡ 32 }
 {
     let _last = registers[31];
@@ -49,22 +49,22 @@ impl<L: Lookaside> Parts<L> {
     }
 
     /// The processor has 32 registers, of which register 0 is 0.
-    pub(crate) fn look_at_registers(&self)
+    pub(crate) fn show_register_zero(&self)
         ensures size { length self.now.core.registers.general ≡ 32 }
         ensures nought { slice_index self.now.core.registers.general 0 ≡ 0 }
     {
-        look_at_size(&self.core.registers);
+        show_32_registers(&self.core.registers);
     }
 
     /// Every processor has 32 registers, of which the first is 0, and 64 slots of its buffer, of
     /// which Random spares 8.
     #[inline(always)]
-    pub(crate) fn look_at_processor(&self)
+    pub(crate) fn show_whole_processor(&self)
         requires slots { L.SLOTS ≡ 64 }
         requires wired { L.WIRED ≡ 8 }
         ensures whole { IsWhole self.now.core }
     {
-        self.look_at_registers();
+        self.show_register_zero();
         let _random = self.core.tlb.random();
     }
 
@@ -85,7 +85,7 @@ impl<L: Lookaside> Parts<L> {
           monitor = record self.old.monitor { seats = self.new.monitor.seats };
         } }
     {
-        self.look_at_registers();
+        self.show_register_zero();
         self.monitor.keep(
             process,
             &self.core.registers,
@@ -100,7 +100,7 @@ impl<L: Lookaside> Parts<L> {
     #[inline(always)]
     fn claim_space(&mut self, process: u32) -> u8
         requires few { process ≤ 100 }
-        ensures number { result ≡ number_of self.new.monitor.spaces process }
+        ensures number { result ≡ space_number self.new.monitor.spaces process }
         ensures range { (0 < result) × (result < 64) }
         ensures represented { IsRepresented self.old.core.entries self.old.bus.memory
             self.old.monitor.tables self.old.monitor.spaces self.old.monitor.grants
@@ -165,17 +165,17 @@ impl<L: Lookaside> Parts<L> {
     /// The process that runs goes on after its call, with an answer: it stays on the processor, and
     /// its next unit begins a tick later.
     #[inline(always)]
-    pub(crate) fn go_on_behind_call(&mut self, answer: u32)
+    pub(crate) fn go_on_after_call(&mut self, answer: u32)
         requires early { self.old.monitor.time ≤ 1000000000 }
         ensures own { own_of self.new ≡ with_none_spent (own_of self.old) }
         ensures rest { (q : Process) → self.new ≡ record (with_counts_of self.new self.old) {
-          core = on_processor self.old.core (behind_call self.old.core answer q);
+          core = on_processor self.old.core (past_call self.old.core answer q);
           monitor = record self.old.monitor { time = self.old.monitor.time + 1 };
         } }
     {
-        let behind = wrapping_sum(self.unit_address(), 4);
+        let afterwards = wrapping_sum(self.unit_address(), 4);
         self.core.registers[2] = answer;
-        self.begin_at(behind);
+        self.begin_at(afterwards);
         self.count_none();
         self.pass(1);
     }

@@ -7,9 +7,9 @@ ghost use Rattle.ds_pagemap.specs.Unit.{denied_as};
 ghost use Rattle.ds_refinement.specs.declared.cause.Cause.TheVariants as cause;
 ghost use Rattle.ds_refinement.specs.Told.{told, is_delayed};
 ghost use Rattle.ds_refinement.specs.Units.{is_served, has_left_user};
-ghost use Rattle.ds_kernel.specs.Parts.{held};
-ghost use Rattle.ds_kernel.specs.Good.{IsBusy, IsGood};
-ghost use Rattle.ds_kernel.specs.Ended.{Does};
+ghost use Rattle.ds_kernel.specs.Inner.Parts.{held};
+ghost use Rattle.ds_kernel.specs.Inner.Good.{IsBusy, IsGood};
+ghost use Rattle.ds_kernel.specs.Inner.Ended.{DoesStep};
 
 use crate::parts::Parts;
 use ds_isa::Kind;
@@ -44,10 +44,10 @@ impl<L: Lookaside> Parts<L> {
         requires left { has_left_user self.old.core ≡ true }
         requires told { told self.old.core.system
             (page_state self.old.monitor.grants self.old.bus.memory) process ≡ cause.Access access }
-        ensures does { Does result (held self.old) (held self.new) }
+        ensures does { DoesStep result (held self.old) (held self.new) }
         ensures good { IsGood self.new }
     {
-        self.look_at_unit(process);
+        self.show_busy_unit(process);
         let address = self.bad_address();
         match self.monitor.grants.table().decide(process, access, address) {
             Verdict::Allowed { .. } => self.late_copy(process),
@@ -67,7 +67,7 @@ impl<L: Lookaside> Parts<L> {
         requires left { has_left_user self.old.core ≡ true }
         requires told { told self.old.core.system
             (page_state self.old.monitor.grants self.old.bus.memory) process ≡ cause.Fault code }
-        ensures does { Does result (held self.old) (held self.new) }
+        ensures does { DoesStep result (held self.old) (held self.new) }
         ensures good { IsGood self.new }
     {
         let own = self.own_address();
@@ -85,7 +85,7 @@ impl<L: Lookaside> Parts<L> {
         requires told { told self.old.core.system
             (page_state self.old.monitor.grants self.old.bus.memory) process ≡ cause.Call }
         requires slot { is_delayed self.old.core.system ≡ true }
-        ensures does { Does result (held self.old) (held self.new) }
+        ensures does { DoesStep result (held self.old) (held self.new) }
         ensures good { IsGood self.new }
     {
         let own = self.own_address();
@@ -104,7 +104,7 @@ impl<L: Lookaside> Parts<L> {
         requires told { told self.old.core.system
             (page_state self.old.monitor.grants self.old.bus.memory) process ≡ cause.Call }
         requires slot { is_delayed self.old.core.system ≡ false }
-        ensures does { Does result (held self.old) (held self.new) }
+        ensures does { DoesStep result (held self.old) (held self.new) }
         ensures good { IsGood self.new }
     {
         self.call(process)
@@ -118,13 +118,13 @@ impl<L: Lookaside> Parts<L> {
         requires wired { L.WIRED ≡ 8 }
         requires busy { IsBusy process self.old }
         requires served { is_served self.old.core ≡ true }
-        ensures does { Does result (held self.old) (held self.new) }
+        ensures does { DoesStep result (held self.old) (held self.new) }
         ensures good { IsGood self.new }
     {
         if !self.has_left_user() {
             return self.double_miss(process);
         }
-        self.look_at_unit(process);
+        self.show_busy_unit(process);
         match self.cause(process) {
             Cause::Access { access } => self.miss(process, access),
             Cause::Fault { code } => self.fault(process, code),

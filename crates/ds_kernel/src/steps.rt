@@ -3,13 +3,13 @@
 ghost use Rattle.std.specs.Prelude.{◌≡◌, ◌≢◌, ◌<◌, ◌^◌, IsOk, IfOk, IfErr, OnOk, OnErr, IsErrOf, [], None, IsSome, true, false};
 ghost use Rattle.ds_pagemap.specs.Run.{is_over};
 ghost use Rattle.ds_refinement.specs.Units.{is_served};
-ghost use Rattle.ds_refinement.specs.Services.{with_failure};
-ghost use Rattle.ds_monitor.specs.Kept.{kept_of};
-ghost use Rattle.ds_monitor.specs.Room.{HasRoom, HasTurnRoom, has_turn_room};
-ghost use Rattle.ds_kernel.specs.Parts.{held};
-ghost use Rattle.ds_kernel.specs.Good.{IsGood};
-ghost use Rattle.ds_kernel.specs.Ended.{Does};
-ghost use Rattle.ds_kernel.specs.Halts.{Halts};
+ghost use Rattle.ds_refinement.specs.Inner.Services.{with_failure};
+ghost use Rattle.ds_monitor.specs.Inner.Kept.{kept_of};
+ghost use Rattle.ds_monitor.specs.Inner.Room.{HasRoom, HasTurnRoom, has_turn_room};
+ghost use Rattle.ds_kernel.specs.Inner.Parts.{held};
+ghost use Rattle.ds_kernel.specs.Inner.Good.{IsGood};
+ghost use Rattle.ds_kernel.specs.Inner.Ended.{DoesStep};
+ghost use Rattle.ds_kernel.specs.Inner.Halts.{Halts};
 
 use crate::halt::Halt;
 use crate::parts::Parts;
@@ -93,7 +93,7 @@ impl<L: Lookaside> Parts<L> {
 
     /// The program stands at an address of 32 bits.
     #[inline(always)]
-    pub(crate) fn look_at_program(&self)
+    pub(crate) fn show_pc_has_32_bits(&self)
         ensures { self.now.core.pc < 2 ^ 32 }
     {
         let _here = self.core.pc;
@@ -114,15 +114,15 @@ impl<L: Lookaside> Parts<L> {
         ensures good { IsGood self.new }
         ensures full { has_turn_room self.old.monitor ≡ true → IsOk result }
         ensures short { OnErr result (has_turn_room self.new.monitor ≡ false) }
-        ensures does { IfOk result (λ step. Does step (held self.old) (held self.new)) }
+        ensures does { IfOk result (λ step. DoesStep step (held self.old) (held self.new)) }
         ensures halts { IfErr result (λ halt. Halts halt (held self.old)) }
         ensures marked { OnErr result (held self.new ≡ with_failure (held self.old)) }
     {
-        self.look_at_program();
+        self.show_pc_has_32_bits();
         self.begin()?;
         if self.is_user() {
             let step = self.execute();
-            self.look_at_processor();
+            self.show_whole_processor();
             Ok(step)
         } else {
             Ok(self.word())
@@ -136,7 +136,7 @@ impl<L: Lookaside> Parts<L> {
         requires wired { L.WIRED ≡ 8 }
         requires good { IsGood self.old }
         requires owed { IsSome self.old.monitor.owed }
-        ensures does { Does result (held self.old) (held self.new) }
+        ensures does { DoesStep result (held self.old) (held self.new) }
         ensures good { IsGood self.new }
     {
         self.close_turn();
@@ -158,7 +158,7 @@ impl<L: Lookaside> Parts<L> {
         ensures good { IsGood self.new }
         ensures full { has_turn_room self.old.monitor ≡ true → IsOk result }
         ensures short { OnErr result (has_turn_room self.new.monitor ≡ false) }
-        ensures does { IfOk result (λ step. Does step (held self.old) (held self.new)) }
+        ensures does { IfOk result (λ step. DoesStep step (held self.old) (held self.new)) }
         ensures halts { IfErr result (λ halt. Halts halt (held self.old)) }
         ensures marked { OnErr result (held self.new ≡ with_failure (held self.old)) }
     {
@@ -183,7 +183,7 @@ impl<L: Lookaside> Parts<L> {
         ensures good { IsGood self.new }
         ensures full { has_turn_room self.old.monitor ≡ true → IsOk result }
         ensures short { OnErr result (has_turn_room self.new.monitor ≡ false) }
-        ensures does { IfOk result (λ step. Does step (held self.old) (held self.new)) }
+        ensures does { IfOk result (λ step. DoesStep step (held self.old) (held self.new)) }
         ensures halts { IfErr result (λ halt. Halts halt (held self.old)) }
         ensures marked { OnErr result (held self.new ≡ with_failure (held self.old)) }
     {
@@ -207,7 +207,7 @@ impl<L: Lookaside> Parts<L> {
             → IsOk result }
         ensures short { self.old.failed ≡ false
             → OnErr result (has_turn_room self.new.monitor ≡ false) }
-        ensures does { IfOk result (λ step. Does step (held self.old) (held self.new)) }
+        ensures does { IfOk result (λ step. DoesStep step (held self.old) (held self.new)) }
         ensures halts { IfErr result (λ halt. Halts halt (held self.old)) }
         ensures marked { OnErr result (held self.new ≡ with_failure (held self.old)) }
         ensures again { self.old.failed ≡ true

@@ -2,10 +2,10 @@
 ghost use Rattle.std.specs.Prelude.{◌≡◌, ◌<◌, ◌≤◌, length, true};
 ghost use Rattle.ds_core.specs.Core as core;
 ghost use Rattle.ds_core.specs.Effect.{step};
-ghost use Rattle.ds_refinement.specs.Services.{after_event, after_word, step_of, with_turn, with_none_spent};
+ghost use Rattle.ds_refinement.specs.Inner.Services.{after_event, after_word, step_of, with_turn, with_none_spent};
 ghost use Rattle.ds_refinement.specs.Handling.{touches};
-ghost use Rattle.ds_monitor.specs.Kept.{kept_of, kept_after};
-ghost use Rattle.ds_kernel.specs.Parts.{held, own_of, with_counts_of};
+ghost use Rattle.ds_monitor.specs.Inner.Kept.{kept_of, kept_after};
+ghost use Rattle.ds_kernel.specs.Inner.Parts.{held, own_of, with_counts_of};
 
 use crate::parts::Parts;
 use ds_core::Event;

@@ -1,29 +1,30 @@
 //! How a service ends the unit of the process that runs: that leaves for its seat, something is done
 //! to what is kept, and who is first comes in.
 ghost use Rattle.std.specs.Prelude.{◌≡◌, ℕ, ◌+◌, ◌<◌, ◌≤◌, ◌^◌, length, Some, None, [], true, false};
-ghost use Rattle.ds_log.specs.Length.{IsShortRule};
+ghost use Rattle.ds_log.specs.Inner.Length.{IsShortRule};
 ghost use Rattle.ds_mem.specs.Memory.{frame_of};
 ghost use Rattle.ds_cp0.specs.System.{is_user};
 ghost use Rattle.ds_procs.specs.Calls.{call_of};
-ghost use Rattle.ds_grants.specs.Represented.{IsRepresented, Keeps};
+ghost use Rattle.ds_grants.specs.Represented.{IsRepresented};
+ghost use Rattle.ds_grants.specs.Inner.Represented.{Keeps};
 ghost use Rattle.ds_grants.specs.Sound.{NamesPages};
 ghost use Rattle.ds_pagemap.specs.Machine.{State, process_of, first};
 ghost use Rattle.ds_pagemap_laws.specs.Lawful.{IsLawful};
-ghost use Rattle.ds_refinement.specs.Held.{whole};
+ghost use Rattle.ds_refinement.specs.Inner.Held.{whole};
 ghost use Rattle.ds_refinement.specs.Pairs.{HasNoNewPairs};
 ghost use Rattle.ds_refinement.specs.Units.{ends_in_stop, ends_in_call};
 ghost use Rattle.ds_refinement.specs.Handling.{IsWhole};
-ghost use Rattle.ds_refinement.specs.Services.{EntersBy, Serves, with_none_spent};
-ghost use Rattle.ds_kernel.specs.Parts.{own_of, with_counts_of};
+ghost use Rattle.ds_refinement.specs.Inner.Services.{EntersBy, Serves, with_none_spent};
+ghost use Rattle.ds_kernel.specs.Inner.Parts.{own_of, with_counts_of};
 ghost use Rattle.ds_refinement.specs.Told.{own_in};
-ghost use Rattle.ds_monitor.specs.Kept.{kept_of};
-ghost use Rattle.ds_monitor.specs.Ended.{IsAlive};
-ghost use Rattle.ds_monitor.specs.Orderly as monitor;
-ghost use Rattle.ds_monitor.specs.Room.{HasLogRoom, HasRoom};
-ghost use Rattle.ds_monitor.specs.Sending.{bus_behind};
-ghost use Rattle.ds_kernel.specs.Good.{IsBusy};
-ghost use Rattle.ds_kernel.specs.Ended.{HasEnded};
-ghost use Rattle.ds_kernel.specs.Seats.{AreAnswered};
+ghost use Rattle.ds_monitor.specs.Inner.Kept.{kept_of};
+ghost use Rattle.ds_monitor.specs.Inner.Ended.{IsAlive};
+ghost use Rattle.ds_monitor.specs.Inner.Orderly as monitor;
+ghost use Rattle.ds_monitor.specs.Inner.Room.{HasLogRoom, HasRoom};
+ghost use Rattle.ds_monitor.specs.Inner.Sending.{bus_after};
+ghost use Rattle.ds_kernel.specs.Inner.Good.{IsBusy};
+ghost use Rattle.ds_kernel.specs.Inner.Ended.{HasEnded};
+ghost use Rattle.ds_kernel.specs.Inner.Seats.{AreAnswered};
 
 use crate::parts::Parts;
 use ds_log::Denied;
@@ -34,7 +35,7 @@ use ds_tlb::Lookaside;
 impl<L: Lookaside> Parts<L> {
     /// While a unit goes on its process is first, no boundary is owed, and there is room for what it
     /// may write.
-    pub(crate) fn look_at_unit(&self, process: u32)
+    pub(crate) fn show_busy_unit(&self, process: u32)
         requires busy { IsBusy process self.now }
         ensures above { 0 < process }
         ensures within { process ≤ length self.now.monitor.seats.items }
@@ -53,7 +54,7 @@ impl<L: Lookaside> Parts<L> {
     }
 
     /// The process that runs has one of the four lines.
-    pub(crate) fn look_at_line(&self, process: u32)
+    pub(crate) fn show_line_below_4(&self, process: u32)
         requires lawful { IsLawful (whole (kept_of self.now.monitor) [] []) }
         ensures { (process_of (kept_of self.now.monitor).state process).line < 4 }
     {
@@ -61,7 +62,7 @@ impl<L: Lookaside> Parts<L> {
     }
 
     /// What is kept has the sizes that a call asks for.
-    fn look_at_sizes(&self, process: u32)
+    fn show_sizes_for_a_call(&self, process: u32)
         requires lawful { IsLawful (whole (kept_of self.now.monitor) [] []) }
         ensures few { length self.now.monitor.seats.items ≤ 100 }
         ensures line { (process_of (kept_of self.now.monitor).state process).line < 4 }
@@ -101,7 +102,7 @@ impl<L: Lookaside> Parts<L> {
         let _table = self.monitor.grants.table();
         self.count_none();
         self.enter(caller);
-        self.look_at_processor();
+        self.show_whole_processor();
     }
 
     /// The unit ends in a denial or a fault of its instruction: the process is parked where its unit
@@ -120,7 +121,7 @@ impl<L: Lookaside> Parts<L> {
             (record { kind = kind; address = address; rule = rule; code = code }))
             self.old self.new }
     {
-        self.look_at_unit(process);
+        self.show_busy_unit(process);
         let unit = self.unit_address();
         let pc = self.own_address();
         self.leave(process, unit);
@@ -144,7 +145,7 @@ impl<L: Lookaside> Parts<L> {
         ensures serves { Serves (ends_in_call process unit)
             (kept_of self.old.monitor) self.old.bus.memory
             (kept_of self.new.monitor) self.new.bus.memory }
-        ensures bus { self.new.bus ≡ record (bus_behind
+        ensures bus { self.new.bus ≡ record (bus_after
             (call_of (process_of (kept_of self.old.monitor).state process).registers.general)
             (process_of (kept_of self.old.monitor).state process).line self.old.bus) {
               memory = self.new.bus.memory;
@@ -181,7 +182,7 @@ impl<L: Lookaside> Parts<L> {
           };
         } }
     {
-        self.look_at_sizes(process);
+        self.show_sizes_for_a_call(process);
         self.monitor
             .call(process, unit, &mut self.bus, &mut self.core.tlb);
     }
@@ -197,8 +198,8 @@ impl<L: Lookaside> Parts<L> {
         ensures ends { HasEnded (ends_in_call process self.old.core.system.epc)
             self.old self.new }
     {
-        self.look_at_unit(process);
-        self.look_at_registers();
+        self.show_busy_unit(process);
+        self.show_register_zero();
         let unit = self.unit_address();
         self.leave(process, unit);
         self.serve_call(process, unit);

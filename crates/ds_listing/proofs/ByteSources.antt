@@ -7,14 +7,16 @@ use Rattle.std.proofs.lemmas.List.Elements.{All-head, All-tail}
 use Rattle.ds_word.specs.Bytes.{bytes_of_word}
 use Rattle.ds_word.specs.Digits.{digits_from}
 use Rattle.ds_word.specs.ResultBinding.{◌>>=◌}
-use Rattle.ds_asm.specs.Numbers.{number_of}
-use Rattle.ds_asm.specs.Lines.{Byte, nothing, statement_named, statement_of, line_of}
-use Rattle.ds_asm.specs.Assembly.{empty_layout, most_bytes, with_line, with_lines, line_bytes, bytes_from, lines_of, address_of, assembled}
+use Rattle.ds_asm.specs.Numbers.{written_number}
+use Rattle.ds_asm.specs.Lines.{Byte, statement_named, statement_of, line_of}
+use Rattle.ds_asm.specs.Inner.Lines.{nothing}
+use Rattle.ds_asm.specs.Assembly.{empty_layout, most_bytes, laid_line, laid_lines, line_bytes, bytes_from, lines_of, label_address, assembled}
 use Rattle.ds_asm.proofs.SourceLines.{lines_of-first}
-use Rattle.ds_listing.specs.Laws.{alone, AreSaid}
+use Rattle.ds_listing.specs.Inner.Laws.{alone, AreSaid}
 use Rattle.ds_listing.specs.Texts.{text_of}
 use Rattle.ds_text.specs.Digits.{hex2, hex_digit}
-use Rattle.ds_listing.specs.Sources.{word_of_bytes, byte_text, byte_lines, elf_magic, source_of_bytes, source_of_file}
+use Rattle.ds_listing.specs.Sources.{word_of_bytes, byte_text, byte_lines, elf_magic}
+use Rattle.ds_listing.specs.Inner.Sources.{source_of_bytes, source_of_file}
 use Rattle.ds_listing.proofs.Numbers.{below_at, hex_digit_of, digit_read, digits_end}
 use Rattle.ds_listing.proofs.Values.{number_hexadecimal}
 use Rattle.ds_listing.proofs.Parts.{IsBody, all_both, all_weaker, is_other, body_line, until_seam, after_seam}
@@ -29,7 +31,7 @@ hex2_digits b l =
     ∙ digit_read 16 4294967295 (0 * 16 + b / 16) _ (b % 16) [] (hex_digit_of (b % 16) (omega arith)) (omega arith)
     ∙ digits_end 16 4294967295 _ ∙ ap (λ (k : ℕ). Some k) (omega arith)
 
-number_byte : (b : ℕ) → b < 256 → number_of (codes "0x" ++ hex2 b) ≡ Some (record { negative = false; magnitude = b })
+number_byte : (b : ℕ) → b < 256 → written_number (codes "0x" ++ hex2 b) ≡ Some (record { negative = false; magnitude = b })
 number_byte b l = number_hexadecimal (hex2 b) b (omega arith) (omega arith) (hex2_digits b l)
 
 hex2_inside : (b : ℕ) → b < 256 → list_all is_inside (codes "0x" ++ hex2 b) ≡ true
@@ -54,11 +56,11 @@ byte_one_line : (b : ℕ) → b < 256 → list_all (is_other 10) (byte_text b) �
 byte_one_line b l = all_both (is_other 10) (codes ".byte ") (codes "0x" ++ hex2 b) refl (all_weaker is_inside (is_other 10) inside_line (codes "0x" ++ hex2 b) (hex2_inside b l))
 
 -- both passes over it
-byte_laid : (n at b : ℕ) → b < 256 → at + 1 ≤ 65536 → with_line n (line_of (byte_text b)) (plain_layout at) ≡ Ok (plain_layout (at + 1))
+byte_laid : (n at b : ℕ) → b < 256 → at + 1 ≤ 65536 → laid_line n (line_of (byte_text b)) (plain_layout at) ≡ Ok (plain_layout (at + 1))
 byte_laid n at b l room =
     let fits : nat_lt most_bytes (at + 1) ≡ false = le-ltb _ _ (omega arith) in
     let good : nat_le b 255 ≡ true = le-leb b 255 (omega arith) in
-    ap (λ x. with_line n x (plain_layout at)) (byte_said b l) ∙ (rw (good, fits) refl)
+    ap (λ x. laid_line n x (plain_layout at)) (byte_said b l) ∙ (rw (good, fits) refl)
 
 byte_added : (n at b : ℕ) (find : List ℕ → Option ℕ) → b < 256 → line_bytes n find at (line_of (byte_text b)) ≡ Ok (b ∷ [])
 byte_added n at b find l = ap (line_bytes n find at) (byte_said b l) ∙ ap (λ (k : ℕ). Ok (k ∷ [])) (omega arith)
@@ -77,10 +79,10 @@ lines_of_left (b ∷ bytes) small =
     ∙ (line_before (byte_text b) (byte_lines bytes) (byte_one_line b (All-head (λ b. b < 256) b bytes small))
     ∙ ap (λ ls. byte_text b ∷ ls) (lines_of_left bytes (All-tail (λ b. b < 256) b bytes small)))
 
-left_laid : (n at : ℕ) (bytes : List ℕ) → All (λ b. b < 256) bytes → at + length bytes ≤ 65536 → with_lines n (plain_layout at) (map byte_text bytes) ≡ Ok (plain_layout (at + length bytes))
+left_laid : (n at : ℕ) (bytes : List ℕ) → All (λ b. b < 256) bytes → at + length bytes ≤ 65536 → laid_lines n (plain_layout at) (map byte_text bytes) ≡ Ok (plain_layout (at + length bytes))
 left_laid n at [] small room = ap (λ (k : ℕ). Ok (plain_layout k)) (omega arith)
 left_laid n at (b ∷ bytes) small room =
-    ap (λ r. r >>= (λ more. with_lines (n + 1) more (map byte_text bytes))) (byte_laid n at b (All-head (λ b. b < 256) b bytes small) (omega arith))
+    ap (λ r. r >>= (λ more. laid_lines (n + 1) more (map byte_text bytes))) (byte_laid n at b (All-head (λ b. b < 256) b bytes small) (omega arith))
     ∙ (left_laid (n + 1) (at + 1) bytes (All-tail (λ b. b < 256) b bytes small) (omega arith) ∙ ap (λ (k : ℕ). Ok (plain_layout k)) (omega arith))
 
 left_added : (n : ℕ) (find : List ℕ → Option ℕ) (before bytes : List ℕ) → All (λ b. b < 256) bytes → bytes_from n find before (map byte_text bytes) ≡ Ok (before ++ bytes)
@@ -103,14 +105,14 @@ lines_of_source (a ∷ b ∷ c ∷ d ∷ bytes) said =
     let text = text_of (word_of_bytes a b c d) in
     line_before text (source_of_bytes bytes) said.0.read.one_line ∙ ap (λ ls. text ∷ ls) (lines_of_source bytes said.1)
 
-source_laid : (n at : ℕ) (bytes : List ℕ) → AreSaid bytes → at % 4 ≡ 0 → at + length bytes ≤ 65536 → with_lines n (plain_layout at) (lines_in bytes) ≡ Ok (plain_layout (at + length bytes))
+source_laid : (n at : ℕ) (bytes : List ℕ) → AreSaid bytes → at % 4 ≡ 0 → at + length bytes ≤ 65536 → laid_lines n (plain_layout at) (lines_in bytes) ≡ Ok (plain_layout (at + length bytes))
 source_laid n at [] said even room = left_laid n at [] said room
 source_laid n at (a ∷ []) said even room = left_laid n at (a ∷ []) said room
 source_laid n at (a ∷ b ∷ []) said even room = left_laid n at (a ∷ b ∷ []) said room
 source_laid n at (a ∷ b ∷ c ∷ []) said even room = left_laid n at (a ∷ b ∷ c ∷ []) said room
 source_laid n at (a ∷ b ∷ c ∷ d ∷ bytes) said even room =
     let w = word_of_bytes a b c d in
-    ap (λ r. r >>= (λ more. with_lines (n + 1) more (lines_in bytes))) (word_laid n at w (line_of (text_of w)) said.0.read.says even (omega arith))
+    ap (λ r. r >>= (λ more. laid_lines (n + 1) more (lines_in bytes))) (word_laid n at w (line_of (text_of w)) said.0.read.says even (omega arith))
     ∙ (source_laid (n + 1) (at + 4) bytes said.1 (omega arith) (omega arith) ∙ ap (λ (k : ℕ). Ok (plain_layout k)) (omega arith))
 
 source_added : (n : ℕ) (find : List ℕ → Option ℕ) (before bytes : List ℕ) → AreSaid bytes → bytes_from n find before (lines_in bytes) ≡ Ok (before ++ bytes)
@@ -126,18 +128,18 @@ source_added n find before (a ∷ b ∷ c ∷ d ∷ bytes) said =
 -- the text of bytes, as many as an image holds, says them
 bytes_read : (bytes : List ℕ) → AreSaid bytes → length bytes ≤ 65536 → assembled (source_of_bytes bytes) ≡ Ok bytes
 bytes_read bytes said few =
-    ap (λ ls. with_lines 1 empty_layout ls >>= (λ layout. bytes_from 1 (address_of layout.labels) [] ls)) (lines_of_source bytes said)
-    ∙ (ap (λ r. r >>= (λ layout. bytes_from 1 (address_of layout.labels) [] (lines_in bytes))) (source_laid 1 0 bytes said refl (omega arith))
-    ∙ source_added 1 (address_of []) [] bytes said)
+    ap (λ ls. laid_lines 1 empty_layout ls >>= (λ layout. bytes_from 1 (label_address layout.labels) [] ls)) (lines_of_source bytes said)
+    ∙ (ap (λ r. r >>= (λ layout. bytes_from 1 (label_address layout.labels) [] (lines_in bytes))) (source_laid 1 0 bytes said refl (omega arith))
+    ∙ source_added 1 (label_address []) [] bytes said)
 
 -- also with a line before it that says nothing
 commented_read : (line bytes : List ℕ) → list_all (is_other 10) line ≡ true → line_of line ≡ Some nothing → AreSaid bytes → length bytes ≤ 65536 → assembled (line ++ 10 ∷ source_of_bytes bytes) ≡ Ok bytes
 commented_read line bytes one none said few =
-    ap (λ ls. with_lines 1 empty_layout ls >>= (λ layout. bytes_from 1 (address_of layout.labels) [] ls)) (line_before line (source_of_bytes bytes) one ∙ ap (λ ls. line ∷ ls) (lines_of_source bytes said))
-    ∙ (ap (λ x. (with_line 1 x empty_layout >>= (λ more. with_lines 2 more (lines_in bytes))) >>= (λ layout. bytes_from 1 (address_of layout.labels) [] (line ∷ lines_in bytes))) none
-    ∙ (ap (λ r. r >>= (λ layout. bytes_from 1 (address_of layout.labels) [] (line ∷ lines_in bytes))) (source_laid 2 0 bytes said refl (omega arith))
-    ∙ (ap (λ x. line_bytes 1 (address_of []) 0 x >>= (λ more. bytes_from 2 (address_of []) ([] ++ more) (lines_in bytes))) none
-    ∙ source_added 2 (address_of []) [] bytes said)))
+    ap (λ ls. laid_lines 1 empty_layout ls >>= (λ layout. bytes_from 1 (label_address layout.labels) [] ls)) (line_before line (source_of_bytes bytes) one ∙ ap (λ ls. line ∷ ls) (lines_of_source bytes said))
+    ∙ (ap (λ x. (laid_line 1 x empty_layout >>= (λ more. laid_lines 2 more (lines_in bytes))) >>= (λ layout. bytes_from 1 (label_address layout.labels) [] (line ∷ lines_in bytes))) none
+    ∙ (ap (λ r. r >>= (λ layout. bytes_from 1 (label_address layout.labels) [] (line ∷ lines_in bytes))) (source_laid 2 0 bytes said refl (omega arith))
+    ∙ (ap (λ x. line_bytes 1 (label_address []) 0 x >>= (λ more. bytes_from 2 (label_address []) ([] ++ more) (lines_in bytes))) none
+    ∙ source_added 2 (label_address []) [] bytes said)))
 
 -- the comment says nothing
 elf_line : line_of (codes "# this file begins as an ELF file does") ≡ Some nothing

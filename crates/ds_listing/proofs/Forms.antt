@@ -6,8 +6,9 @@ use Rattle.ds_isa.specs.declared.instr.Instr.{Instr}
 use Rattle.ds_isa.specs.declared.instr.Instr.TheVariants as instr
 use Rattle.ds_isa.specs.Fields.{Field, op, in_word}
 use Rattle.ds_isa.specs.Instruction.{Row, fits, by_rows, is_coprocessor, of_no_row, rows, instruction_of}
-use Rattle.ds_isa.specs.Encoding.{entry}
-use Rattle.ds_listing.specs.Texts.{Form, form_in, form_of}
+use Rattle.ds_isa.specs.Inner.Encoding.{entry}
+use Rattle.ds_listing.specs.Texts.{Form, form_of}
+use Rattle.ds_listing.specs.Inner.Texts.{form_in}
 
 -- the form of one of two instructions
 form_of_either : (b : Bool) (i j : Instr) → form_in (entry (if b then i else j)) ≡ (if b then form_in (entry i) else form_in (entry j))

@@ -8,10 +8,11 @@ use Rattle.std.proofs.Math.Seq.{take-append_seam}
 use Rattle.ds_word.proofs.ResultBinding.{bind_ok}
 use Rattle.ds_asm.specs.declared.fault.SourceFault.TheVariants.{DoubleLabel}
 use Rattle.ds_asm.specs.Lines.{Line, line_of}
-use Rattle.ds_asm.specs.Assembly.{Labels, Layout, empty_layout, origin, address_of, labelled, sized, with_line, with_lines, line_bytes, bytes_from, lines_of, assembled}
+use Rattle.ds_asm.specs.Assembly.{Labels, Layout, empty_layout, origin, label_address, labelled, sized, laid_line, laid_lines, line_bytes, bytes_from, lines_of, assembled}
 use Rattle.ds_asm.specs.Faults.{label_in, size_in}
 use Rattle.ds_asm.proofs.ImageSizes.{laid_size, line_length}
-use Rattle.ds_listing.specs.Listing.{Row, rows_from, rows_of, label_text, value_text, row_text, rows_text, EndsWithLabels}
+use Rattle.ds_listing.specs.Listing.{ListedLine, rows_from, rows_of, label_line_text, row_text, rows_text}
+use Rattle.ds_listing.specs.Inner.Listing.{value_text, EndsWithLabels}
 use Rattle.ds_listing.proofs.Listings.{drop_seam}
 
 -- a label with its value, and those of lines
@@ -19,18 +20,18 @@ abbrev value_at : ℕ → Option (List ℕ) → Labels
 value_at at None = []
 value_at at (Some name) = (name, origin + at) ∷ []
 
-abbrev values_of : List Row → Labels
+abbrev values_of : List ListedLine → Labels
 values_of rows = flat_map (λ r. value_at r.place r.label) rows
 
 -- their texts
-value_said : (at : ℕ) (label : Option (List ℕ)) → label_text at label ≡ flat_map value_text (value_at at label)
+value_said : (at : ℕ) (label : Option (List ℕ)) → label_line_text at label ≡ flat_map value_text (value_at at label)
 value_said at None = refl
 value_said at (Some name) = sym (append-nil (value_text (name, origin + at)))
 
-values_said : (rows : List Row) → flat_map (λ r. label_text r.place r.label) rows ≡ flat_map value_text (values_of rows)
+values_said : (rows : List ListedLine) → flat_map (λ r. label_line_text r.place r.label) rows ≡ flat_map value_text (values_of rows)
 values_said [] = refl
 values_said (r ∷ rows) =
-    ap (λ ys. ys ++ flat_map (λ r. label_text r.place r.label) rows) (value_said r.place r.label)
+    ap (λ ys. ys ++ flat_map (λ r. label_line_text r.place r.label) rows) (value_said r.place r.label)
     ∙ (ap (λ ys. flat_map value_text (value_at r.place r.label) ++ ys) (values_said rows)
     ∙ sym (flat_map-append value_text (value_at r.place r.label) (values_of rows)))
 
@@ -41,9 +42,9 @@ named_by false n at name labels more h = cc
 
 label_named : (n at : ℕ) (label : Option (List ℕ)) (labels more : Labels) → labelled n at label labels ≡ Ok more → more ≡ value_at at label ++ labels
 label_named n at None labels more h = cc
-label_named n at (Some name) labels more h = named_by (is_some (address_of labels name)) n at name labels more h
+label_named n at (Some name) labels more h = named_by (is_some (label_address labels name)) n at name labels more h
 
-line_named : (n : ℕ) (m next : Layout) (x : Option Line) → with_line n x m ≡ Ok next → next.labels ≡ value_at m.size (label_in x) ++ m.labels
+line_named : (n : ℕ) (m next : Layout) (x : Option Line) → laid_line n x m ≡ Ok next → next.labels ≡ value_at m.size (label_in x) ++ m.labels
 line_named n m next None h = cc
 line_named n m next (Some line) h =
     let (labels, a, b) = bind_ok (labelled n m.size line.label m.labels) _ next h in
@@ -56,8 +57,8 @@ reverse_value at None = refl
 reverse_value at (Some name) = refl
 
 -- the labels after a line, the oldest first
-behind_line : (at : ℕ) (label : Option (List ℕ)) (labels more : Labels) → more ≡ value_at at label ++ labels → reverse more ≡ reverse labels ++ value_at at label
-behind_line at label labels more h = ap reverse h ∙ (reverse-append (value_at at label) labels ∙ ap (λ vs. reverse labels ++ vs) (reverse_value at label))
+past_line : (at : ℕ) (label : Option (List ℕ)) (labels more : Labels) → more ≡ value_at at label ++ labels → reverse more ≡ reverse labels ++ value_at at label
+past_line at label labels more h = ap reverse h ∙ (reverse-append (value_at at label) labels ∙ ap (λ vs. reverse labels ++ vs) (reverse_value at label))
 
 -- what a line adds, where what is left begins with its bytes
 row_named : (n at : ℕ) (line : List ℕ) (lines : List (List ℕ)) (more tail : List ℕ) → length more ≡ size_in (line_of line)
@@ -68,14 +69,14 @@ row_named n at line lines more tail long =
     rw (sym long, here, rest) refl
 
 lines_named : (n : ℕ) (find : List ℕ → Option ℕ) (bytes out : List ℕ) (lines : List (List ℕ)) (m last : Layout) → m.size ≤ 65536
-    → with_lines n m lines ≡ Ok last → bytes_from n find bytes lines ≡ Ok out
+    → laid_lines n m lines ≡ Ok last → bytes_from n find bytes lines ≡ Ok out
     → (tail : List ℕ) × (out ≡ bytes ++ tail) × (reverse last.labels ≡ reverse m.labels ++ values_of (rows_from n m.size tail lines))
 lines_named n find bytes out [] m last few g h =
     let same : bytes ≡ out = cc in
     let kept : m ≡ last = cc in
     ([], sym same ∙ sym (append-nil bytes), ap (λ (l : Layout). reverse l.labels) (sym kept) ∙ sym (append-nil (reverse m.labels)))
 lines_named n find bytes out (line ∷ lines) m last few g h =
-    let (next, u, v) = bind_ok (with_line n (line_of line) m) (λ more. with_lines (n + 1) more lines) last g in
+    let (next, u, v) = bind_ok (laid_line n (line_of line) m) (λ more. laid_lines (n + 1) more lines) last g in
     let (more, a, b) = bind_ok (line_bytes n find (length bytes) (line_of line)) (λ more. bytes_from (n + 1) find (bytes ++ more) lines) out h in
     let (grown, room) = laid_size n m next (line_of line) few u in
     let (tail, e, named) = lines_named (n + 1) find (bytes ++ more) out lines next last room v b in
@@ -84,20 +85,20 @@ lines_named n find bytes out (line ∷ lines) m last few g h =
       more ++ tail,
       e ∙ append_assoc bytes more tail,
       named
-          ∙ (ap (λ ls. ls ++ values_of (rows_from (n + 1) next.size tail lines)) (behind_line m.size (label_in (line_of line)) m.labels next.labels (line_named n m next (line_of line) u))
+          ∙ (ap (λ ls. ls ++ values_of (rows_from (n + 1) next.size tail lines)) (past_line m.size (label_in (line_of line)) m.labels next.labels (line_named n m next (line_of line) u))
           ∙ (append_assoc (reverse m.labels) here (values_of (rows_from (n + 1) next.size tail lines))
           ∙ ap (λ vs. reverse m.labels ++ vs) (ap (λ (k : ℕ). here ++ values_of (rows_from (n + 1) k tail lines)) grown ∙ sym (row_named n m.size line lines more tail long)))),
     )
 
-rows_named : (text image : List ℕ) (layout : Layout) → with_lines 1 empty_layout (lines_of text) ≡ Ok layout → assembled text ≡ Ok image
+rows_named : (text image : List ℕ) (layout : Layout) → laid_lines 1 empty_layout (lines_of text) ≡ Ok layout → assembled text ≡ Ok image
     → values_of (rows_of text image) ≡ reverse layout.labels
 rows_named text image layout g h =
-    let (l, a, b) = bind_ok (with_lines 1 empty_layout (lines_of text)) (λ layout. bytes_from 1 (address_of layout.labels) [] (lines_of text)) image h in
-    let (tail, e, named) = lines_named 1 (address_of l.labels) [] image (lines_of text) empty_layout layout (omega arith) g b in
+    let (l, a, b) = bind_ok (laid_lines 1 empty_layout (lines_of text)) (λ layout. bytes_from 1 (label_address layout.labels) [] (lines_of text)) image h in
+    let (tail, e, named) = lines_named 1 (label_address l.labels) [] image (lines_of text) empty_layout layout (omega arith) g b in
     ap (λ (i : List ℕ). values_of (rows_from 1 0 i (lines_of text))) e ∙ sym named
 
 -- so a listing ends with them
-pub ends_with_labels : (text image sheet : List ℕ) (layout : Layout) → with_lines 1 empty_layout (lines_of text) ≡ Ok layout → assembled text ≡ Ok image
+pub ends_with_labels : (text image sheet : List ℕ) (layout : Layout) → laid_lines 1 empty_layout (lines_of text) ≡ Ok layout → assembled text ≡ Ok image
     → sheet ≡ rows_text (rows_of text image) → EndsWithLabels layout.labels sheet
 ends_with_labels text image sheet layout g h said =
     let rows = rows_of text image in (

@@ -2,7 +2,7 @@
 use Rattle.std.proofs.Common.{◌≡◌, ap, refl, List, [], ◌∷◌, map, ◌||◌}
 use Rattle.std.specs.List.{list_any}
 use Rattle.ds_listing.specs.declared.operand.Operand.{Operand}
-use Rattle.ds_listing.specs.Plain.{operand_of}
+use Rattle.ds_listing.specs.Inner.Plain.{operand_of}
 use Rattle.ds_listing.specs.Texts.{is_label, has_label}
 
 pub labels_alike : (os : List Operand) → list_any (λ o. is_label (operand_of o)) os ≡ has_label (map operand_of os)

@@ -5,34 +5,35 @@ use Rattle.std.proofs.lemmas.List.{length-replicate, take-append-drop}
 use Rattle.std.proofs.Math.Seq.{take-append_seam, drop-append-add}
 use Rattle.ds_word.proofs.ResultBinding.{bind_ok}
 use Rattle.ds_asm.specs.Lines.{Statement, Encoded, WordNumber, WordLabel, Byte, Space, Line, line_of}
-use Rattle.ds_asm.specs.Assembly.{empty_layout, address_of, with_lines, statement_bytes, optional_bytes, line_bytes, bytes_from, lines_of, assembled}
+use Rattle.ds_asm.specs.Assembly.{empty_layout, label_address, laid_lines, statement_bytes, optional_bytes, line_bytes, bytes_from, lines_of, assembled}
 use Rattle.ds_asm.specs.Faults.{label_in, size_in}
 use Rattle.ds_asm.proofs.ImageSizes.{line_length, statement_length}
-use Rattle.ds_listing.specs.Listing.{IsTold, Row, Shows, row_of, rows_from, rows_of}
+use Rattle.ds_listing.specs.Listing.{ListedLine, row_of, rows_from, rows_of}
+use Rattle.ds_listing.specs.Inner.Listing.{IsTold, Shows}
 
 -- a line more
-one_line : (f : Row → List ℕ) (xs new : List ℕ) (r : Row) (rs rows : List Row) (whole : List ℕ) → rows ≡ r ∷ rs → new ≡ xs ++ f r → xs ++ flat_map f rows ≡ whole → new ++ flat_map f rs ≡ whole
+one_line : (f : ListedLine → List ℕ) (xs new : List ℕ) (r : ListedLine) (rs rows : List ListedLine) (whole : List ℕ) → rows ≡ r ∷ rs → new ≡ xs ++ f r → xs ++ flat_map f rows ≡ whole → new ++ flat_map f rs ≡ whole
 one_line f xs new r rs rows whole first added h =
     ap (λ ys. ys ++ flat_map f rs) added
     ∙ (append_assoc xs (f r) (flat_map f rs) ∙ (ap (λ ls. xs ++ flat_map f ls) (sym first) ∙ h))
 
-pub line_more : (f : Row → List ℕ) (n at place : ℕ) (left bytes further text line behind xs new whole : List ℕ) (label : Option (List ℕ))
-    → lines_of text ≡ line ∷ lines_of behind
+pub line_more : (f : ListedLine → List ℕ) (n at place : ℕ) (left bytes further text line afterwards xs new whole : List ℕ) (label : Option (List ℕ))
+    → lines_of text ≡ line ∷ lines_of afterwards
     → bytes ≡ take (size_in (line_of line)) left → further ≡ drop (size_in (line_of line)) left → label ≡ label_in (line_of line)
     → place ≡ at + length bytes
     → new ≡ xs ++ f (record { number = n; place = at; bytes = bytes; label = label; text = line })
     → xs ++ flat_map f (rows_from n at left (lines_of text)) ≡ whole
-    → new ++ flat_map f (rows_from (n + 1) place further (lines_of behind)) ≡ whole
-line_more f n at place left bytes further text line behind xs new whole label first b d l p added h =
+    → new ++ flat_map f (rows_from (n + 1) place further (lines_of afterwards)) ≡ whole
+line_more f n at place left bytes further text line afterwards xs new whole label first b d l p added h =
     let row : record { number = n; place = at; bytes = bytes; label = label; text = line } ≡ row_of n at left line = rw (b, l) refl in
     let grown : place ≡ at + length (take (size_in (line_of line)) left) = p ∙ ap (λ (ys : List ℕ). at + length ys) b in
-    let tail : rows_from (n + 1) place further (lines_of behind) ≡ rows_from (n + 1) (at + length (take (size_in (line_of line)) left)) (drop (size_in (line_of line)) left) (lines_of behind) =
-    ap (λ (k : ℕ). rows_from (n + 1) k further (lines_of behind)) grown
-    ∙ ap (λ (ys : List ℕ). rows_from (n + 1) (at + length (take (size_in (line_of line)) left)) ys (lines_of behind)) d in
-    ap (λ (rs : List Row). new ++ flat_map f rs) tail
-    ∙ one_line f xs new (row_of n at left line) _ (rows_from n at left (lines_of text)) whole (ap (rows_from n at left) first) (added ∙ ap (λ (r : Row). xs ++ f r) row) h
+    let tail : rows_from (n + 1) place further (lines_of afterwards) ≡ rows_from (n + 1) (at + length (take (size_in (line_of line)) left)) (drop (size_in (line_of line)) left) (lines_of afterwards) =
+    ap (λ (k : ℕ). rows_from (n + 1) k further (lines_of afterwards)) grown
+    ∙ ap (λ (ys : List ℕ). rows_from (n + 1) (at + length (take (size_in (line_of line)) left)) ys (lines_of afterwards)) d in
+    ap (λ (rs : List ListedLine). new ++ flat_map f rs) tail
+    ∙ one_line f xs new (row_of n at left line) _ (rows_from n at left (lines_of text)) whole (ap (rows_from n at left) first) (added ∙ ap (λ (r : ListedLine). xs ++ f r) row) h
 
-pub no_line : (f : Row → List ℕ) (n at : ℕ) (left text xs whole : List ℕ) → length text ≡ 0 → xs ++ flat_map f (rows_from n at left (lines_of text)) ≡ whole → xs ≡ whole
+pub no_line : (f : ListedLine → List ℕ) (n at : ℕ) (left text xs whole : List ℕ) → length text ≡ 0 → xs ++ flat_map f (rows_from n at left (lines_of text)) ≡ whole → xs ≡ whole
 no_line f n at left [] xs whole none h = sym (append-nil xs) ∙ h
 no_line f n at left (x ∷ text) xs whole none h = absurd (omega arith)
 
@@ -92,6 +93,6 @@ lines_shown n find bytes out (line ∷ lines) h =
 
 pub image_shown : (text image : List ℕ) → assembled text ≡ Ok image → Shows (rows_of text image) image
 image_shown text image h =
-    let (layout, a, b) = bind_ok (with_lines 1 empty_layout (lines_of text)) (λ layout. bytes_from 1 (address_of layout.labels) [] (lines_of text)) image h in
-    let (tail, e, next) = lines_shown 1 (address_of layout.labels) [] image (lines_of text) b in
+    let (layout, a, b) = bind_ok (laid_lines 1 empty_layout (lines_of text)) (λ layout. bytes_from 1 (label_address layout.labels) [] (lines_of text)) image h in
+    let (tail, e, next) = lines_shown 1 (label_address layout.labels) [] image (lines_of text) b in
     subst (λ (i : List ℕ). Shows (rows_from 1 0 i (lines_of text)) i) (sym e) (next 0)

@@ -5,7 +5,8 @@ use Rattle.std.proofs.lemmas.Option.{slice_get-map}
 use Rattle.ds_listing.specs.declared.names.RegisterNames.{RegisterNames}
 use Rattle.ds_listing.specs.declared.names.RegisterNames.TheVariants.{Numbers}
 use Rattle.ds_listing.specs.NamedTexts.{text_as, bytes_as, file_as}
-use Rattle.ds_listing.specs.Sources.{byte_lines, source_of_file}
+use Rattle.ds_listing.specs.Sources.{byte_lines}
+use Rattle.ds_listing.specs.Inner.Sources.{source_of_file}
 use Rattle.ds_listing.specs.Texts.{text_of}
 
 -- A name among names that are lent.

@@ -51,12 +51,12 @@ then_chosen None t f g h e = refl
 then_chosen (Some d) t f g h e = ap (λ (r : Option ℕ). if t d then r else None) (e d) ∙ then_either (t d) (g d) h
 
 -- a digit after others
-digit_behind : (base limit n : ℕ) (xs : List ℕ) (c : ℕ) → digits_from base limit n (xs ++ c ∷ []) ≡ option_and_then (λ m. digits_from base limit m (c ∷ [])) (digits_from base limit n xs)
+digit_after : (base limit n : ℕ) (xs : List ℕ) (c : ℕ) → digits_from base limit n (xs ++ c ∷ []) ≡ option_and_then (λ m. digits_from base limit m (c ∷ [])) (digits_from base limit n xs)
 unfolding digits_from
-digit_behind base limit n [] c = refl
-digit_behind base limit n (x ∷ xs) c =
+digit_after base limit n [] c = refl
+digit_after base limit n (x ∷ xs) c =
     then_chosen (digit_of base x) (λ d. nat_le (n * base + d) limit) (λ d. digits_from base limit (n * base + d) (xs ++ c ∷ []))
-    (λ d. digits_from base limit (n * base + d) xs) (λ m. digits_from base limit m (c ∷ [])) (λ d. digit_behind base limit (n * base + d) xs c)
+    (λ d. digits_from base limit (n * base + d) xs) (λ m. digits_from base limit m (c ∷ [])) (λ d. digit_after base limit (n * base + d) xs c)
 
 -- what the decimal digits say, and the hexadecimal ones
 decimal_digit_of : (d : ℕ) → d < 10 → digit_of 10 (48 + d) ≡ Some d
@@ -70,7 +70,7 @@ pub decimal_read : (limit n : ℕ) → n < 2 ^ 64 → n ≤ limit → digits_fro
 decimal_read limit n small within = decimal_by_steps (λ m ds. m ≤ limit → digits_from 10 limit 0 ds ≡ Some m)
     (λ m l h. digit_read 10 limit 0 (48 + m) m [] (decimal_digit_of m l) (omega arith) ∙ digits_end 10 limit (0 * 10 + m) ∙ ap (λ (k : ℕ). Some k) (omega arith))
     (λ m ds l ih h.
-    digit_behind 10 limit 0 ds (48 + m % 10)
+    digit_after 10 limit 0 ds (48 + m % 10)
     ∙ ap (option_and_then (λ k. digits_from 10 limit k ((48 + m % 10) ∷ []))) (ih (omega arith))
     ∙ digit_read 10 limit (m / 10) (48 + m % 10) (m % 10) [] (decimal_digit_of (m % 10) (omega arith)) (omega arith)
     ∙ digits_end 10 limit (m / 10 * 10 + m % 10) ∙ ap (λ (k : ℕ). Some k) (omega arith))

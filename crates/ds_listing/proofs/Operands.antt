@@ -7,11 +7,11 @@ use Rattle.std.proofs.Math.Seq.{take-append_seam, get_or-append_seam}
 use Rattle.ds_word.specs.Word.{word}
 use Rattle.ds_word.specs.OptionBinding.{◌>>=◌}
 use Rattle.ds_isa.specs.Fields.{Field, rd, Operand, Register, LinkRegister, SystemRegister, Number, Code, Signed, Branch, Jump, Indexed, places, filled}
-use Rattle.ds_asm.specs.Characters.{is_blank, trimmed, until, after}
-use Rattle.ds_asm.specs.Numbers.{number_of}
-use Rattle.ds_asm.specs.Operands.{bare, with_value, with_number, with_register, with_signed, with_unsigned, with_indexed, with_operand, with_operands, with_first, before_close, is_link, has_comma}
+use Rattle.ds_asm.specs.Characters.{is_blank, trimmed, until, text_after}
+use Rattle.ds_asm.specs.Numbers.{written_number}
+use Rattle.ds_asm.specs.Operands.{without_operands, with_value, with_number, with_register, with_signed, with_unsigned, with_indexed, with_operand, with_operands, with_first, before_close, is_link, has_comma}
 use Rattle.ds_asm.specs.RegisterNames.{register_of}
-use Rattle.ds_listing.specs.Texts.{register_text, signed_text, unsigned_text, distance_text, operand_by, others_by}
+use Rattle.ds_listing.specs.Texts.{register_read_text, signed_text, unsigned_text, distance_text, operand_by, others_by}
 use Rattle.ds_text.specs.Digits.{hex4, hex8}
 use Rattle.ds_listing.proofs.Numbers.{decimal_all, hex4_all, hex8_all}
 use Rattle.ds_listing.proofs.Parts.{all_weaker, all_both, is_other, until_seam, until_none, after_some, after_none, seam_there, trimmed_dense}
@@ -63,16 +63,16 @@ fits_width at f k fit e = subst (λ (n : ℕ). at f < 2 ^ n) e (fit f)
 
 -- a number in its field
 number_taken : (f : Field) (least most w v k : ℕ) (text : List ℕ) (r : IsRead text least most (2 ^ k) v) → f.width ≡ k
-    → option_map (λ n. with_number f least most n (bare w)) (number_of text) ≡ Some (bare (word (w + v % 2 ^ f.width * 2 ^ f.lo)))
+    → option_map (λ n. with_number f least most n (without_operands w)) (written_number text) ≡ Some (without_operands (word (w + v % 2 ^ f.width * 2 ^ f.lo)))
 number_taken f least most w v k text r e = rw (r.read, r.within, e, r.kept) refl
 
 unsigned_taken : (f : Field) (w v k : ℕ) (text : List ℕ) → IsRead text 0 (2 ^ k - 1) (2 ^ k) v → f.width ≡ k
-    → with_unsigned f text (bare w) ≡ Some (bare (word (w + v % 2 ^ f.width * 2 ^ f.lo)))
-unsigned_taken f w v k text r e = subst (λ (n : ℕ). option_map (λ m. with_number f 0 (2 ^ n - 1) m (bare w)) (number_of text) ≡ Some (bare (word (w + v % 2 ^ f.width * 2 ^ f.lo)))) (sym e) (number_taken f 0 (2 ^ k - 1) w v k text r e)
+    → with_unsigned f text (without_operands w) ≡ Some (without_operands (word (w + v % 2 ^ f.width * 2 ^ f.lo)))
+unsigned_taken f w v k text r e = subst (λ (n : ℕ). option_map (λ m. with_number f 0 (2 ^ n - 1) m (without_operands w)) (written_number text) ≡ Some (without_operands (word (w + v % 2 ^ f.width * 2 ^ f.lo)))) (sym e) (number_taken f 0 (2 ^ k - 1) w v k text r e)
 
 signed_taken : (f : Field) (w v : ℕ) (text : List ℕ) → IsRead text 32768 32767 65536 v → f.width ≡ 16
-    → with_signed f text (bare w) ≡ Some (bare (word (w + v % 2 ^ f.width * 2 ^ f.lo)))
-signed_taken f w v text r e = subst (λ (n : ℕ). option_map (λ m. with_number f (2 ^ (n - 1)) (2 ^ (n - 1) - 1) m (bare w)) (number_of text) ≡ Some (bare (word (w + v % 2 ^ f.width * 2 ^ f.lo)))) (sym e) (number_taken f 32768 32767 w v 16 text r e)
+    → with_signed f text (without_operands w) ≡ Some (without_operands (word (w + v % 2 ^ f.width * 2 ^ f.lo)))
+signed_taken f w v text r e = subst (λ (n : ℕ). option_map (λ m. with_number f (2 ^ (n - 1)) (2 ^ (n - 1) - 1) m (without_operands w)) (written_number text) ≡ Some (without_operands (word (w + v % 2 ^ f.width * 2 ^ f.lo)))) (sym e) (number_taken f 32768 32767 w v 16 text r e)
 
 -- a text that passes a test of no blanks is trimmed
 trimmed_all : (xs : List ℕ) → list_all (λ b. not (is_blank b)) xs ≡ true → trimmed xs ≡ xs
@@ -86,48 +86,48 @@ closed xs =
     rw (size, get_or-append_seam xs 41 [] 0, take-append_seam xs (41 ∷ [])) refl
 
 -- an offset and a base, where the parts of their text are known
-indexed_by : (base offset : Field) (text rest inner front : List ℕ) (w n : ℕ) → after 40 text ≡ Some rest → before_close rest ≡ Some inner → register_of (trimmed inner) ≡ Some n → trimmed (until 40 text) ≡ front
-    → with_indexed base offset text (bare w) ≡ with_signed offset front (with_value base n (bare w))
+indexed_by : (base offset : Field) (text rest inner front : List ℕ) (w n : ℕ) → text_after 40 text ≡ Some rest → before_close rest ≡ Some inner → register_of (trimmed inner) ≡ Some n → trimmed (until 40 text) ≡ front
+    → with_indexed base offset text (without_operands w) ≡ with_signed offset front (with_value base n (without_operands w))
 unfolding with_indexed
 indexed_by base offset text rest inner front w n a b c d =
-    ap (λ o. o >>= (λ more. before_close more >>= (λ name. register_of (trimmed name) >>= (λ r. with_signed offset (trimmed (until 40 text)) (with_value base r (bare w)))))) a
-    ∙ (ap (λ o. o >>= (λ name. register_of (trimmed name) >>= (λ r. with_signed offset (trimmed (until 40 text)) (with_value base r (bare w))))) b
-    ∙ (ap (λ o. o >>= (λ r. with_signed offset (trimmed (until 40 text)) (with_value base r (bare w)))) c
-    ∙ ap (λ t. with_signed offset t (with_value base n (bare w))) d))
+    ap (λ o. o >>= (λ more. before_close more >>= (λ name. register_of (trimmed name) >>= (λ r. with_signed offset (trimmed (until 40 text)) (with_value base r (without_operands w)))))) a
+    ∙ (ap (λ o. o >>= (λ name. register_of (trimmed name) >>= (λ r. with_signed offset (trimmed (until 40 text)) (with_value base r (without_operands w))))) b
+    ∙ (ap (λ o. o >>= (λ r. with_signed offset (trimmed (until 40 text)) (with_value base r (without_operands w)))) c
+    ∙ ap (λ t. with_signed offset t (with_value base n (without_operands w))) d))
 
 indexed_taken : (base offset : Field) (at : Field → ℕ) (w : ℕ) → Fit at → base.width ≡ 5 → offset.width ≡ 16
-    → with_indexed base offset (operand_by register_text at (Indexed base offset)) (bare w) ≡ Some (bare (added (base ∷ offset ∷ []) at w))
+    → with_indexed base offset (operand_by register_read_text at (Indexed base offset)) (without_operands w) ≡ Some (without_operands (added (base ∷ offset ∷ []) at w))
 indexed_taken base offset at w fit b o =
     let small = fits_width at base 5 fit b in
     let half = fits_width at offset 16 fit o in
-    let behind_offset = register_text (at base) ++ 41 ∷ [] in
+    let after_offset = register_read_text (at base) ++ 41 ∷ [] in
     let front = signed_all (is_other 40) refl refl (at offset) (omega arith) in
     let dense = signed_all (λ c. not (is_blank c)) refl refl (at offset) (omega arith) in
     let close = register_all (λ c. not (is_blank c)) refl refl (at base) (omega arith) in
-    indexed_by base offset (signed_text (at offset) ++ 40 ∷ behind_offset) behind_offset (register_text (at base)) (signed_text (at offset)) w (at base)
-    (after_some 40 (signed_text (at offset)) behind_offset front refl)
-    (closed (register_text (at base)))
-    (ap register_of (trimmed_all (register_text (at base)) close) ∙ register_read (at base) (omega arith))
-    (ap trimmed (until_seam 40 (signed_text (at offset)) behind_offset front refl) ∙ trimmed_all (signed_text (at offset)) dense)
+    indexed_by base offset (signed_text (at offset) ++ 40 ∷ after_offset) after_offset (register_read_text (at base)) (signed_text (at offset)) w (at base)
+    (after_some 40 (signed_text (at offset)) after_offset front refl)
+    (closed (register_read_text (at base)))
+    (ap register_of (trimmed_all (register_read_text (at base)) close) ∙ register_read (at base) (omega arith))
+    (ap trimmed (until_seam 40 (signed_text (at offset)) after_offset front refl) ∙ trimmed_all (signed_text (at offset)) dense)
     ∙ signed_taken offset (word (w + at base % 2 ^ base.width * 2 ^ base.lo)) (at offset) (signed_text (at offset)) (read_signed (at offset) half) o
 
 -- the text of an operand puts its value into its field
-pub operand_taken : (o : Operand) (at : Field → ℕ) (w : ℕ) → Fit at → is_plain o ≡ true → with_operand o (operand_by register_text at o) (bare w) ≡ Some (bare (added (places o) at w))
+pub operand_taken : (o : Operand) (at : Field → ℕ) (w : ℕ) → Fit at → is_plain o ≡ true → with_operand o (operand_by register_read_text at o) (without_operands w) ≡ Some (without_operands (added (places o) at w))
 unfolding with_operand
-operand_taken (Register f) at w fit h = ap (λ r. with_register f r (bare w)) (register_read (at f) (fits_width at f 5 fit (eqb-true _ _ h)))
-operand_taken (LinkRegister f) at w fit h = ap (λ r. with_register f r (bare w)) (register_read (at f) (fits_width at f 5 fit (eqb-true _ _ h)))
-operand_taken (SystemRegister f) at w fit h = ap (λ r. with_register f r (bare w)) (system_register_read (at f) (fits_width at f 5 fit (eqb-true _ _ h)))
+operand_taken (Register f) at w fit h = ap (λ r. with_register f r (without_operands w)) (register_read (at f) (fits_width at f 5 fit (eqb-true _ _ h)))
+operand_taken (LinkRegister f) at w fit h = ap (λ r. with_register f r (without_operands w)) (register_read (at f) (fits_width at f 5 fit (eqb-true _ _ h)))
+operand_taken (SystemRegister f) at w fit h = ap (λ r. with_register f r (without_operands w)) (system_register_read (at f) (fits_width at f 5 fit (eqb-true _ _ h)))
 operand_taken (Number f) at w fit h = elim (or_cases (f.width == 5) (f.width == 16) h) [
   | inl a ↦
       let e = eqb-true f.width 5 a in
       let small = fits_width at f 5 fit e in
       let text : unsigned_text f.width (at f) ≡ decimal (at f) = rw e refl in
-      ap (λ t. with_unsigned f t (bare w)) text ∙ unsigned_taken f w (at f) 5 (decimal (at f)) (read_decimal (at f) 31 32 (omega arith) (omega arith)) e
+      ap (λ t. with_unsigned f t (without_operands w)) text ∙ unsigned_taken f w (at f) 5 (decimal (at f)) (read_decimal (at f) 31 32 (omega arith) (omega arith)) e
   | inr a ↦
       let e = eqb-true f.width 16 a in
       let half = fits_width at f 16 fit e in
       let text : unsigned_text f.width (at f) ≡ codes "0x" ++ hex4 (at f) = rw e refl in
-      ap (λ t. with_unsigned f t (bare w)) text ∙ unsigned_taken f w (at f) 16 (codes "0x" ++ hex4 (at f)) (read_half (at f) half) e
+      ap (λ t. with_unsigned f t (without_operands w)) text ∙ unsigned_taken f w (at f) 16 (codes "0x" ++ hex4 (at f)) (read_half (at f) half) e
 ]
 operand_taken (Code f) at w fit h =
     let e = eqb-true f.width 20 h in
@@ -170,7 +170,7 @@ distance_clear m l = elim (cases_Bool (nat_le m 32768)) [
 abbrev pub AreWords : (Field → ℕ) → Type 0
 AreWords at = (f : Field) → at f < 2 ^ 32
 
-pub operand_clear : (o : Operand) (at : Field → ℕ) → AreWords at → list_all is_clear (operand_by register_text at o) ≡ true
+pub operand_clear : (o : Operand) (at : Field → ℕ) → AreWords at → list_all is_clear (operand_by register_read_text at o) ≡ true
 operand_clear (Register f) at fit = let l = fit f in register_all is_clear refl refl (at f) (omega arith)
 operand_clear (LinkRegister f) at fit = let l = fit f in register_all is_clear refl refl (at f) (omega arith)
 operand_clear (SystemRegister f) at fit = let l = fit f in register_all is_clear refl refl (at f) (omega arith)
@@ -182,43 +182,43 @@ operand_clear (Jump f) at fit = all_both is_clear (codes "0x") (hex8 (4 * at f))
 operand_clear (Indexed base offset) at fit =
     let l = fit base in
     let k = fit offset in
-    all_both is_clear (signed_text (at offset)) (40 ∷ register_text (at base) ++ 41 ∷ []) (signed_all is_clear refl refl (at offset) (omega arith))
-    (all_both is_clear (register_text (at base)) (41 ∷ []) (register_all is_clear refl refl (at base) (omega arith)) refl)
+    all_both is_clear (signed_text (at offset)) (40 ∷ register_read_text (at base) ++ 41 ∷ []) (signed_all is_clear refl refl (at offset) (omega arith))
+    (all_both is_clear (register_read_text (at base)) (41 ∷ []) (register_all is_clear refl refl (at base) (omega arith)) refl)
 
 -- the first operand of a text, where a comma stands after it and where none does
-first_taken : (o : Operand) (at : Field → ℕ) (w : ℕ) (text : List ℕ) (left : Option (List ℕ)) → Fit at → AreWords at → is_plain o ≡ true → until 44 text ≡ operand_by register_text at o → after 44 text ≡ left
-    → with_first o text (bare w) ≡ Some (left, bare (added (places o) at w))
+first_taken : (o : Operand) (at : Field → ℕ) (w : ℕ) (text : List ℕ) (left : Option (List ℕ)) → Fit at → AreWords at → is_plain o ≡ true → until 44 text ≡ operand_by register_read_text at o → text_after 44 text ≡ left
+    → with_first o text (without_operands w) ≡ Some (left, without_operands (added (places o) at w))
 first_taken o at w text left fit words h u b =
-    ap (λ t. option_map (λ next. (after 44 text, next)) (with_operand o (trimmed t) (bare w))) u
-    ∙ (ap (λ t. option_map (λ next. (after 44 text, next)) (with_operand o t (bare w))) (trimmed_all (operand_by register_text at o) (all_weaker is_clear (λ c. not (is_blank c)) clear_dense (operand_by register_text at o) (operand_clear o at words)))
-    ∙ (ap (option_map (λ next. (after 44 text, next))) (operand_taken o at w fit h)
-    ∙ ap (λ t. Some (t, bare (added (places o) at w))) b))
+    ap (λ t. option_map (λ next. (text_after 44 text, next)) (with_operand o (trimmed t) (without_operands w))) u
+    ∙ (ap (λ t. option_map (λ next. (text_after 44 text, next)) (with_operand o t (without_operands w))) (trimmed_all (operand_by register_read_text at o) (all_weaker is_clear (λ c. not (is_blank c)) clear_dense (operand_by register_read_text at o) (operand_clear o at words)))
+    ∙ (ap (option_map (λ next. (text_after 44 text, next))) (operand_taken o at w fit h)
+    ∙ ap (λ t. Some (t, without_operands (added (places o) at w))) b))
 
 comma_there : (xs ys : List ℕ) → list_all (is_other 44) xs ≡ true → has_comma (xs ++ 44 ∷ ys) ≡ true
 comma_there xs ys h = seam_there 44 xs ys h refl
 
 -- the operands of a text put their values into their fields
 pub operands_taken : (o : Operand) (os : List Operand) (at : Field → ℕ) (w : ℕ) → Fit at → AreWords at → are_plain (o ∷ os) ≡ true
-    → with_operands (o ∷ os) (Some (operand_by register_text at o ++ others_by register_text at os)) (bare w) ≡ Some (bare (added (flat_map places (o ∷ os)) at w))
+    → with_operands (o ∷ os) (Some (operand_by register_read_text at o ++ others_by register_read_text at os)) (without_operands w) ≡ Some (without_operands (added (flat_map places (o ∷ os)) at w))
 unfolding with_operands
 operands_taken o [] at w fit words h =
     let (a, b) = and_parts (is_plain o) (not (is_link o)) h in
-    let text = operand_by register_text at o ++ [] in
-    let clear : list_all (is_other 44) text ≡ true = all_both (is_other 44) (operand_by register_text at o) [] (all_weaker is_clear (is_other 44) clear_other (operand_by register_text at o) (operand_clear o at words)) refl in
+    let text = operand_by register_read_text at o ++ [] in
+    let clear : list_all (is_other 44) text ≡ true = all_both (is_other 44) (operand_by register_read_text at o) [] (all_weaker is_clear (is_other 44) clear_other (operand_by register_read_text at o) (operand_clear o at words)) refl in
     let link : is_link o && not (has_comma text) ≡ false = and_left (is_link o) _ (not-true (is_link o) b) in
-    ap (λ c. (if c then Some (Some text, with_value rd 31 (bare w)) else with_first o text (bare w)) >>= (λ p. with_operands [] p.0 p.1)) link
-    ∙ (ap (λ r. r >>= (λ p. with_operands [] p.0 p.1)) (first_taken o at w text None fit words a (until_none 44 text clear ∙ append-nil (operand_by register_text at o)) (after_none 44 text clear))
-    ∙ ap (λ fs. Some (bare (added fs at w))) (sym (append-nil (places o))))
+    ap (λ c. (if c then Some (Some text, with_value rd 31 (without_operands w)) else with_first o text (without_operands w)) >>= (λ p. with_operands [] p.0 p.1)) link
+    ∙ (ap (λ r. r >>= (λ p. with_operands [] p.0 p.1)) (first_taken o at w text None fit words a (until_none 44 text clear ∙ append-nil (operand_by register_read_text at o)) (after_none 44 text clear))
+    ∙ ap (λ fs. Some (without_operands (added fs at w))) (sym (append-nil (places o))))
 operands_taken o (p ∷ os) at w fit words h =
     let (a, b) = and_parts (is_plain o) (are_plain (p ∷ os)) h in
-    let rest = operand_by register_text at p ++ others_by register_text at os in
-    let text = operand_by register_text at o ++ 44 ∷ rest in
-    let clear : list_all (is_other 44) (operand_by register_text at o) ≡ true = all_weaker is_clear (is_other 44) clear_other (operand_by register_text at o) (operand_clear o at words) in
-    let link : is_link o && not (has_comma text) ≡ false = and_right (is_link o) _ (ap not (comma_there (operand_by register_text at o) rest clear)) in
-    ap (λ c. (if c then Some (Some text, with_value rd 31 (bare w)) else with_first o text (bare w)) >>= (λ q. with_operands (p ∷ os) q.0 q.1)) link
-    ∙ (ap (λ r. r >>= (λ q. with_operands (p ∷ os) q.0 q.1)) (first_taken o at w text (Some rest) fit words a (until_seam 44 (operand_by register_text at o) rest clear refl) (after_some 44 (operand_by register_text at o) rest clear refl))
+    let rest = operand_by register_read_text at p ++ others_by register_read_text at os in
+    let text = operand_by register_read_text at o ++ 44 ∷ rest in
+    let clear : list_all (is_other 44) (operand_by register_read_text at o) ≡ true = all_weaker is_clear (is_other 44) clear_other (operand_by register_read_text at o) (operand_clear o at words) in
+    let link : is_link o && not (has_comma text) ≡ false = and_right (is_link o) _ (ap not (comma_there (operand_by register_read_text at o) rest clear)) in
+    ap (λ c. (if c then Some (Some text, with_value rd 31 (without_operands w)) else with_first o text (without_operands w)) >>= (λ q. with_operands (p ∷ os) q.0 q.1)) link
+    ∙ (ap (λ r. r >>= (λ q. with_operands (p ∷ os) q.0 q.1)) (first_taken o at w text (Some rest) fit words a (until_seam 44 (operand_by register_read_text at o) rest clear refl) (after_some 44 (operand_by register_read_text at o) rest clear refl))
     ∙ (operands_taken p os at (added (places o) at w) fit words b
-    ∙ ap (λ v. Some (bare v)) (sym (added-append (places o) (flat_map places (p ∷ os)) at w))))
+    ∙ ap (λ v. Some (without_operands v)) (sym (added-append (places o) (flat_map places (p ∷ os)) at w))))
 
 sum_of_words : (b x y : ℕ) → ((b + x) % 2 ^ 32 + y) % 2 ^ 32 ≡ (b + (x + y)) % 2 ^ 32
 sum_of_words b x y = omega arith

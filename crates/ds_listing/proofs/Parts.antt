@@ -5,9 +5,9 @@ use Rattle.std.proofs.lemmas.Bool.{and_parts, and_from, lt-ltb, le-ltb, not-true
 use Rattle.std.proofs.lemmas.List.{take_all, reverse-append}
 use Rattle.std.proofs.lemmas.List.Folds.{list_all-append}
 use Rattle.std.proofs.Math.Seq.{take-append_seam, drop-append-add}
-use Rattle.ds_asm.specs.Characters.{is_blank, without_front_blanks, without_back_blanks, trimmed, until, after}
+use Rattle.ds_asm.specs.Characters.{is_blank, without_front_blanks, without_back_blanks, trimmed, until, text_after}
 use Rattle.ds_asm.specs.Lines.{statement_of, with_label, line_parts, line_of}
-use Rattle.ds_listing.specs.Laws.{alone}
+use Rattle.ds_listing.specs.Inner.Laws.{alone}
 
 -- a weaker test passes too
 pub all_weaker : (p q : ℕ → Bool) → ((c : ℕ) → p c ≡ true → q c ≡ true) → (xs : List ℕ) → list_all p xs ≡ true → list_all q xs ≡ true
@@ -38,7 +38,7 @@ is_other c b = not (b == c)
 pub until_seam : (c : ℕ) (xs ys : List ℕ) → list_all (is_other c) xs ≡ true → (c == c) ≡ true → until c (xs ++ c ∷ ys) ≡ xs
 until_seam c xs ys h itself = rw (stops (is_other c) xs ys c h (ap not itself)) (take-append_seam xs (c ∷ ys))
 
-pub after_some : (c : ℕ) (xs ys : List ℕ) → list_all (is_other c) xs ≡ true → (c == c) ≡ true → after c (xs ++ c ∷ ys) ≡ Some ys
+pub after_some : (c : ℕ) (xs ys : List ℕ) → list_all (is_other c) xs ≡ true → (c == c) ≡ true → text_after c (xs ++ c ∷ ys) ≡ Some ys
 after_some c xs ys h itself =
     let long : nat_lt (length xs) (length (xs ++ c ∷ ys)) ≡ true = lt-ltb _ _ (omega (arith, length-append xs (c ∷ ys))) in
     rw (stops (is_other c) xs ys c h (ap not itself), long) (ap (λ zs. Some zs) (drop-append-add xs (c ∷ ys) 1))
@@ -55,7 +55,7 @@ seam_there c xs ys h itself =
 pub until_none : (c : ℕ) (xs : List ℕ) → list_all (is_other c) xs ≡ true → until c xs ≡ xs
 until_none c xs h = rw (passes (is_other c) xs h) (take_all (length xs) xs (omega arith))
 
-pub after_none : (c : ℕ) (xs : List ℕ) → list_all (is_other c) xs ≡ true → after c xs ≡ None
+pub after_none : (c : ℕ) (xs : List ℕ) → list_all (is_other c) xs ≡ true → text_after c xs ≡ None
 after_none c xs h = let short : nat_lt (length xs) (length xs) ≡ false = le-ltb _ _ (omega arith) in rw (passes (is_other c) xs h, short) refl
 
 -- no blanks stand at the end after a text without them

@@ -1,13 +1,15 @@
 -- The text of words assembles to their bytes.
 use Rattle.std.proofs.Common.{◌≡◌, ◌∙◌, ap, sym, refl, ℕ, ◌+◌, ◌*◌, ◌%◌, ◌≤◌, true, false, ◌&&◌, ◌==◌, nat_lt, List, [], ◌∷◌, ◌++◌, length, length-append, map, Option, Ok, arith, append-nil, append_assoc}
 use Rattle.std.proofs.lemmas.Bool.{and_from, le-ltb, ne_eqb}
-use Rattle.ds_word.specs.Bytes.{bytes_of_word, bytes_of_words}
+use Rattle.ds_word.specs.Bytes.{bytes_of_word}
+use Rattle.ds_word.specs.Inner.Bytes.{bytes_of_words}
 use Rattle.ds_word.specs.ResultBinding.{◌>>=◌}
 use Rattle.ds_asm.specs.Lines.{Line, line_of}
-use Rattle.ds_asm.specs.Assembly.{Layout, empty_layout, most_bytes, is_in_range, is_aligned, with_line, with_lines, line_bytes, bytes_from, lines_of, address_of, assembled}
+use Rattle.ds_asm.specs.Assembly.{Layout, empty_layout, most_bytes, is_in_range, is_word_aligned, laid_line, laid_lines, line_bytes, bytes_from, lines_of, label_address, assembled}
 use Rattle.ds_asm.proofs.SourceLines.{lines_of-first}
-use Rattle.ds_listing.specs.Laws.{Says, IsLineOf, EachIsRead}
-use Rattle.ds_listing.specs.Texts.{text_of, source_of}
+use Rattle.ds_listing.specs.Inner.Laws.{Says, IsLineOf, EachIsRead}
+use Rattle.ds_listing.specs.Texts.{text_of}
+use Rattle.ds_listing.specs.Inner.Texts.{source_of}
 use Rattle.ds_listing.proofs.Parts.{until_seam, after_seam}
 
 -- the lines of the text of words
@@ -27,20 +29,20 @@ abbrev pub plain_layout : ℕ → Layout
 plain_layout at = record { labels = []; size = at }
 
 -- the first pass over a line that says a word
-pub word_laid : (n at w : ℕ) (line : Option Line) → Says line w → at % 4 ≡ 0 → at + 4 ≤ 65536 → with_line n line (plain_layout at) ≡ Ok (plain_layout (at + 4))
+pub word_laid : (n at w : ℕ) (line : Option Line) → Says line w → at % 4 ≡ 0 → at + 4 ≤ 65536 → laid_line n line (plain_layout at) ≡ Ok (plain_layout (at + 4))
 word_laid n at w line s even room =
     let fits : nat_lt most_bytes (at + 4) ≡ false = le-ltb _ _ (omega arith) in
-    let good : is_in_range s.statement && is_aligned at s.statement ≡ true = and_from _ _ s.word.in_range (s.word.aligned at even) in
-    ap (λ x. with_line n x (plain_layout at)) s.is ∙ (rw (good, s.word.size, fits) refl)
+    let good : is_in_range s.statement && is_word_aligned at s.statement ≡ true = and_from _ _ s.word.in_range (s.word.aligned at even) in
+    ap (λ x. laid_line n x (plain_layout at)) s.is ∙ (rw (good, s.word.size, fits) refl)
 
 -- and the second
 pub word_added : (n w at : ℕ) (find : List ℕ → Option ℕ) (line : Option Line) → Says line w → line_bytes n find at line ≡ Ok (bytes_of_word w)
 word_added n w at find line s = ap (line_bytes n find at) s.is ∙ s.word.bytes n find at
 
-source_laid : (n at : ℕ) (ws : List ℕ) → EachIsRead ws → at % 4 ≡ 0 → at + 4 * length ws ≤ 65536 → with_lines n (plain_layout at) (map text_of ws) ≡ Ok (plain_layout (at + 4 * length ws))
+source_laid : (n at : ℕ) (ws : List ℕ) → EachIsRead ws → at % 4 ≡ 0 → at + 4 * length ws ≤ 65536 → laid_lines n (plain_layout at) (map text_of ws) ≡ Ok (plain_layout (at + 4 * length ws))
 source_laid n at [] read even room = ap (λ (k : ℕ). Ok (plain_layout k)) (omega arith)
 source_laid n at (w ∷ ws) read even room =
-    ap (λ r. r >>= (λ more. with_lines (n + 1) more (map text_of ws))) (word_laid n at w (line_of (text_of w)) read.0.says even (omega arith))
+    ap (λ r. r >>= (λ more. laid_lines (n + 1) more (map text_of ws))) (word_laid n at w (line_of (text_of w)) read.0.says even (omega arith))
     ∙ (source_laid (n + 1) (at + 4) ws read.1 (omega arith) (omega arith) ∙ ap (λ (k : ℕ). Ok (plain_layout k)) (omega arith))
 
 source_added : (n : ℕ) (find : List ℕ → Option ℕ) (bytes : List ℕ) (ws : List ℕ) → EachIsRead ws → bytes_from n find bytes (map text_of ws) ≡ Ok (bytes ++ bytes_of_words ws)
@@ -52,9 +54,9 @@ source_added n find bytes (w ∷ ws) read =
 -- the text of words, as many as an image holds, says their bytes
 pub source_read : (ws : List ℕ) → EachIsRead ws → length ws ≤ 16384 → assembled (source_of ws) ≡ Ok (bytes_of_words ws)
 source_read ws read few =
-    ap (λ ls. with_lines 1 empty_layout ls >>= (λ layout. bytes_from 1 (address_of layout.labels) [] ls)) (lines_of_source ws read)
-    ∙ (ap (λ r. r >>= (λ layout. bytes_from 1 (address_of layout.labels) [] (map text_of ws))) (source_laid 1 0 ws read (omega arith) (omega arith))
-    ∙ source_added 1 (address_of []) [] ws read)
+    ap (λ ls. laid_lines 1 empty_layout ls >>= (λ layout. bytes_from 1 (label_address layout.labels) [] ls)) (lines_of_source ws read)
+    ∙ (ap (λ r. r >>= (λ layout. bytes_from 1 (label_address layout.labels) [] (map text_of ws))) (source_laid 1 0 ws read (omega arith) (omega arith))
+    ∙ source_added 1 (label_address []) [] ws read)
 
 -- one word more
 pub each_more : (ws : List ℕ) (w : ℕ) → EachIsRead ws → IsLineOf (text_of w) w → EachIsRead (ws ++ w ∷ [])

@@ -6,12 +6,12 @@ use Rattle.std.proofs.lemmas.Bool.{and_parts, eq-eqb, le-leb, not-true, cond-fal
 use Rattle.std.proofs.Math.Seq.{take-append_seam, drop-append_seam, take-length, drop-length}
 use Rattle.ds_word.specs.Bytes.{bytes_of_word}
 use Rattle.ds_asm.specs.Characters.{is_blank, without_front_blanks}
-use Rattle.ds_asm.specs.Operands.{bare}
+use Rattle.ds_asm.specs.Operands.{without_operands}
 use Rattle.ds_asm.specs.Lines.{Encoded, WordNumber, unless_empty, number_word, instruction_named, statement_named, statement_of, line_of}
 use Rattle.ds_asm.specs.Assembly.{is_reserved_word}
 use Rattle.ds_listing.specs.Texts.{word_text}
 use Rattle.ds_text.specs.Digits.{hex8}
-use Rattle.ds_listing.specs.Laws.{alone, IsWord, Says}
+use Rattle.ds_listing.specs.Inner.Laws.{alone, IsWord, Says}
 use Rattle.ds_listing.proofs.Numbers.{hex8_all}
 use Rattle.ds_listing.proofs.Parts.{all_weaker, all_both, is_other, stops, passes, no_back_blanks, IsBody, body_line, commented_line}
 use Rattle.ds_listing.proofs.Values.{number_word as number_word_read}
@@ -57,7 +57,7 @@ name_body c cs h =
 pub operands_body : (c : ℕ) (cs : List ℕ) (y : ℕ) (ys : List ℕ) → list_all is_inside (c ∷ cs) ≡ true → list_all is_inside (y ∷ ys) ≡ true → IsBody (c ∷ cs ++ 32 ∷ y ∷ ys)
 operands_body c cs y ys h k =
     let name = name_body c cs h in
-    let behind = name_body y ys k in
+    let afterwards = name_body y ys k in
     let dense = all_weaker is_inside (λ b. not (is_blank b)) inside_dense (y ∷ ys) k in
     record {
       first = c;
@@ -65,8 +65,8 @@ operands_body c cs y ys h k =
       whole = refl;
       front = inside_front c cs h;
       back = ap (suffix_len is_blank) (sym (append_assoc (c ∷ cs) (32 ∷ []) (y ∷ ys))) ∙ no_back_blanks (c ∷ cs ++ 32 ∷ []) y ys dense;
-      no_comment = all_both (is_other 35) (c ∷ cs) (32 ∷ y ∷ ys) name.no_comment behind.no_comment;
-      no_label = all_both (is_other 58) (c ∷ cs) (32 ∷ y ∷ ys) name.no_label behind.no_label;
+      no_comment = all_both (is_other 35) (c ∷ cs) (32 ∷ y ∷ ys) name.no_comment afterwards.no_comment;
+      no_label = all_both (is_other 58) (c ∷ cs) (32 ∷ y ∷ ys) name.no_label afterwards.no_label;
     }
 
 -- the mnemonic of such bodies, and what stands after it
@@ -106,7 +106,7 @@ named_statement c cs left h =
     cond-false _ _ _ (not-true _ w) ∙ (cond-false _ _ _ (not-true _ y) ∙ cond-false _ _ _ (not-true _ s))
 
 -- a word in a field of its own
-pub encoded_word : (w : ℕ) → is_reserved_word w ≡ false → IsWord (Encoded (bare w)) w
+pub encoded_word : (w : ℕ) → is_reserved_word w ≡ false → IsWord (Encoded (without_operands w)) w
 encoded_word w h = record {
   size = refl;
   in_range = ap not h;

@@ -1,11 +1,8 @@
 pub mod Texts
 pub mod Listing
-pub mod Came
 pub mod Sources
-pub mod Plain
-pub mod Laws
 pub mod NamedTexts
 pub mod Places
 pub mod Pages
-pub mod PlaceRows
-pub mod Worked
+pub mod Inner
+pub mod Rows

@@ -1,15 +1,15 @@
 -- The listing of a source: each line with its place in the image and its bytes there, and the labels.
-use Rattle.std.specs.Prelude.{◌≡◌, ◌⊎◌, codes, decimal, ℕ, ◌+◌, ◌-◌, List, [], ◌∷◌, ◌++◌, length, replicate, take, drop, reverse, Option, None, Some, Result, Ok, ⊤}
+use Rattle.std.specs.Prelude.{codes, decimal, ℕ, ◌+◌, ◌-◌, List, [], ◌∷◌, ◌++◌, length, replicate, take, drop, Option, None, Some, Result, Ok}
 use Rattle.std.specs.List.{flat_map}
 use Rattle.ds_word.specs.ResultBinding.{◌>>=◌}
 use Rattle.ds_asm.specs.declared.fault.SourceFault.{SourceFault}
 use Rattle.ds_asm.specs.Lines.{line_of}
-use Rattle.ds_asm.specs.Assembly.{Labels, origin, lines_of, assembled}
+use Rattle.ds_asm.specs.Assembly.{origin, lines_of, assembled}
 use Rattle.ds_asm.specs.Faults.{label_in, size_in}
 use Rattle.ds_text.specs.Digits.{hex2, hex8}
 
 -- a line: its number, where it stands in the image, its bytes there, its label and its text
-pub record Row : Type 0 where
+pub record ListedLine : Type 0 where
   pub number : ℕ
   pub place : ℕ
   pub bytes : List ℕ
@@ -17,7 +17,7 @@ pub record Row : Type 0 where
   pub text : List ℕ
 
 -- line n, at a place from which on this is left of the image
-abbrev pub row_of : ℕ → ℕ → List ℕ → List ℕ → Row
+abbrev pub row_of : ℕ → ℕ → List ℕ → List ℕ → ListedLine
 row_of n at left line = record {
   number = n;
   place = at;
@@ -27,14 +27,14 @@ row_of n at left line = record {
 }
 
 -- lines of which the first is line n, each with as many bytes of what is left as it has
-abbrev pub rows_from : ℕ → ℕ → List ℕ → List (List ℕ) → List Row
+abbrev pub rows_from : ℕ → ℕ → List ℕ → List (List ℕ) → List ListedLine
 rows_from n at left [] = []
 rows_from n at left (line ∷ lines) =
     row_of n at left line
     ∷ rows_from (n + 1) (at + length (take (size_in (line_of line)) left)) (drop (size_in (line_of line)) left) lines
 
 -- the lines of a source that has an image
-abbrev pub rows_of : List ℕ → List ℕ → List Row
+abbrev pub rows_of : List ℕ → List ℕ → List ListedLine
 rows_of text image = rows_from 1 0 image (lines_of text)
 
 -- four bytes as their word, with the highest byte first; one byte; and zeros by their number
@@ -47,8 +47,8 @@ bytes_text zeros = codes "00 x " ++ decimal (length zeros)
 abbrev pub blanks_before : ℕ → List ℕ → List ℕ
 blanks_before width text = replicate (width - length text) 32 ++ text
 
-abbrev pub blanks_behind : ℕ → List ℕ → List ℕ
-blanks_behind width text = text ++ replicate (width - length text) 32
+abbrev pub blanks_past : ℕ → List ℕ → List ℕ
+blanks_past width text = text ++ replicate (width - length text) 32
 
 -- the address of a place of the image
 abbrev pub address_text : ℕ → List ℕ
@@ -57,53 +57,30 @@ address_text at = hex8 (origin + at)
 -- where bytes stand, and the bytes; as wide where there are none
 abbrev pub shown_text : ℕ → List ℕ → List ℕ
 shown_text at [] = replicate 20 32
-shown_text at (b ∷ bs) = address_text at ++ (codes "  " ++ blanks_behind 10 (bytes_text (b ∷ bs)))
+shown_text at (b ∷ bs) = address_text at ++ (codes "  " ++ blanks_past 10 (bytes_text (b ∷ bs)))
 
 -- what stands after a line's number: nothing, where the line is empty
-abbrev pub behind_number : Row → List ℕ → List ℕ
-behind_number r [] = []
-behind_number r (c ∷ cs) = codes "  " ++ (shown_text r.place r.bytes ++ (codes "  " ++ c ∷ cs))
+abbrev pub after_number : ListedLine → List ℕ → List ℕ
+after_number r [] = []
+after_number r (c ∷ cs) = codes "  " ++ (shown_text r.place r.bytes ++ (codes "  " ++ c ∷ cs))
 
 -- a line of the listing
-abbrev pub row_text : Row → List ℕ
-row_text r = blanks_before 5 (decimal r.number) ++ (behind_number r r.text ++ 10 ∷ [])
+abbrev pub row_text : ListedLine → List ℕ
+row_text r = blanks_before 5 (decimal r.number) ++ (after_number r r.text ++ 10 ∷ [])
 
 -- a label with its value, where a line has one
-abbrev pub label_text : ℕ → Option (List ℕ) → List ℕ
-label_text at None = []
-label_text at (Some name) = address_text at ++ (codes "  " ++ (name ++ 10 ∷ []))
+abbrev pub label_line_text : ℕ → Option (List ℕ) → List ℕ
+label_line_text at None = []
+label_line_text at (Some name) = address_text at ++ (codes "  " ++ (name ++ 10 ∷ []))
 
 -- the labels of lines, and a line that says so before them
-abbrev pub labels_text : List Row → List ℕ
-labels_text rows = codes "labels\n" ++ flat_map (λ r. label_text r.place r.label) rows
+abbrev pub labels_text : List ListedLine → List ℕ
+labels_text rows = codes "labels\n" ++ flat_map (λ r. label_line_text r.place r.label) rows
 
 -- the lines, and after them the labels
-abbrev pub rows_text : List Row → List ℕ
+abbrev pub rows_text : List ListedLine → List ℕ
 rows_text rows = flat_map row_text rows ++ labels_text rows
 
 -- the listing of a source, or its first fault
 abbrev pub listing_of : List ℕ → Result (List ℕ) SourceFault
 listing_of text = assembled text >>= (λ image. Ok (rows_text (rows_of text image)))
-
--- bytes that their text tells: one, four, or zeros
-abbrev pub IsTold : List ℕ → Type 0
-IsTold bytes = (length bytes ≡ 1) ⊎ ((length bytes ≡ 4) ⊎ (bytes ≡ replicate (length bytes) 0))
-
--- and so those of each line
-abbrev pub EachIsTold : List Row → Type 0
-EachIsTold [] = ⊤
-EachIsTold (r ∷ rows) = IsTold r.bytes × EachIsTold rows
-
--- the lines of a listing have the bytes of the image, one line's after the other's, and their texts
--- tell them
-pub record Shows (rows : List Row) (image : List ℕ) : Type 0 where
-  pub bytes : flat_map (λ r. r.bytes) rows ≡ image
-  pub told : EachIsTold rows
-
--- a label with its value
-abbrev pub value_text : List ℕ × ℕ → List ℕ
-value_text l = hex8 l.1 ++ (codes "  " ++ (l.0 ++ 10 ∷ []))
-
--- a listing ends with these labels, the oldest first
-abbrev pub EndsWithLabels : Labels → List ℕ → Type 0
-EndsWithLabels labels listing = (front : List ℕ) × (listing ≡ front ++ (codes "labels\n" ++ flat_map value_text (reverse labels)))

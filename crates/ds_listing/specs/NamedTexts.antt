@@ -4,7 +4,7 @@ use Rattle.ds_asm.specs.RegisterNames.{register_names}
 use Rattle.ds_listing.specs.declared.names.RegisterNames.{RegisterNames}
 use Rattle.ds_listing.specs.declared.names.RegisterNames.TheVariants.{Numbers, Common}
 use Rattle.ds_listing.specs.Sources.{elf_comment, lines_by}
-use Rattle.ds_listing.specs.Texts.{form_of, register_text, word_by}
+use Rattle.ds_listing.specs.Texts.{form_of, register_read_text, word_by}
 
 -- the common name of a register, which is one of those that the assembler reads
 abbrev pub common_name : ℕ → List ℕ
@@ -12,7 +12,7 @@ common_name n = unwrap_or (slice_get register_names n) []
 
 -- a register, by its number or its common name
 abbrev pub register_as : RegisterNames → ℕ → List ℕ
-register_as Numbers n = register_text n
+register_as Numbers n = register_read_text n
 register_as Common n = 36 ∷ common_name n
 
 -- the text of a word

@@ -1,7 +1,6 @@
 -- The source of bytes, and of a file.
 use Rattle.std.specs.Prelude.{codes, ℕ, ◌+◌, ◌*◌, ◌^◌, ◌==◌, if◌then◌else◌, List, [], ◌∷◌, ◌++◌}
 use Rattle.std.specs.List.{flat_map, starts_with}
-use Rattle.ds_listing.specs.Texts.{text_of}
 use Rattle.ds_text.specs.Digits.{hex2}
 
 -- the word of four bytes, the lowest first
@@ -25,10 +24,6 @@ abbrev pub lines_by : (ℕ → List ℕ) → List ℕ → List ℕ
 lines_by text (a ∷ b ∷ c ∷ d ∷ bytes) = text (word_of_bytes a b c d) ++ 10 ∷ lines_by text bytes
 lines_by text bytes = byte_lines bytes
 
--- the text of bytes
-abbrev pub source_of_bytes : List ℕ → List ℕ
-source_of_bytes bytes = lines_by text_of bytes
-
 -- the bytes with which an ELF file begins
 abbrev pub elf_magic : List ℕ
 elf_magic = 0x7F ∷ codes "ELF"
@@ -36,7 +31,3 @@ elf_magic = 0x7F ∷ codes "ELF"
 -- a comment that tells of them, where a file has them
 abbrev pub elf_comment : List ℕ → List ℕ
 elf_comment bytes = if starts_with (λ a b. a == b) bytes elf_magic then codes "# this file begins as an ELF file does\n" else []
-
--- the text of a file: that of its bytes, after the comment
-abbrev pub source_of_file : List ℕ → List ℕ
-source_of_file bytes = elf_comment bytes ++ source_of_bytes bytes

@@ -3,12 +3,11 @@ use Rattle.std.specs.Prelude.{codes, decimal, ℕ, ◌+◌, ◌-◌, ◌*◌, �
 use Rattle.std.specs.List.{flat_map, list_any}
 use Rattle.ds_text.specs.Digits.{hex4, hex8}
 use Rattle.ds_isa.specs.Fields.{Field, in_word, Operand, Register, LinkRegister, SystemRegister, Number, Code, Signed, Branch, Jump, Indexed}
-use Rattle.ds_isa.specs.Encoding.{Entry, InRow, OfCoprocessor, OfNone}
 use Rattle.ds_isa.specs.Instruction.{by_rows, rows}
 
 -- a register, by its number
-abbrev pub register_text : ℕ → List ℕ
-register_text n = 36 ∷ decimal n
+abbrev pub register_read_text : ℕ → List ℕ
+register_read_text n = 36 ∷ decimal n
 
 -- a half that is a number in two's complement
 abbrev pub signed_text : ℕ → List ℕ
@@ -26,7 +25,7 @@ distance_text m = if nat_le m 32768 then codes ".+" ++ decimal (4 * m) else code
 abbrev pub operand_by : (ℕ → List ℕ) → (Field → ℕ) → Operand → List ℕ
 operand_by register at (Register f) = register (at f)
 operand_by register at (LinkRegister f) = register (at f)
-operand_by register at (SystemRegister f) = register_text (at f)
+operand_by register at (SystemRegister f) = register_read_text (at f)
 operand_by register at (Number f) = unsigned_text f.width (at f)
 operand_by register at (Code f) = decimal (at f)
 operand_by register at (Signed f) = signed_text (at f)
@@ -76,12 +75,6 @@ abbrev pub form_by : (ℕ → List ℕ) → ℕ → Form → List ℕ
 form_by register w f =
     if has_label f.operands then word_text w ++ (codes " # " ++ instruction_by register (in_word w) f) else instruction_by register (in_word w) f
 
--- the form of an entry of the table, if it is a row
-abbrev pub form_in : Entry → Option Form
-form_in (InRow row values) = Some (record { name = row.name; operands = row.operands })
-form_in (OfCoprocessor w) = None
-form_in (OfNone w) = None
-
 -- the form of the row that a word fits
 unfoldable pub form_of : ℕ → Option Form
 form_of w = by_rows (λ row at. Some (record { name = row.name; operands = row.operands })) (λ w. None) rows w
@@ -93,8 +86,4 @@ word_by register w (Some f) = form_by register w f
 
 -- the text of a word, with registers by their numbers
 unfoldable pub text_of : ℕ → List ℕ
-text_of w = if w == 0 then codes "nop" else word_by register_text w (form_of w)
-
--- the text of words, a line for each
-abbrev pub source_of : List ℕ → List ℕ
-source_of words = flat_map (λ w. text_of w ++ 10 ∷ []) words
+text_of w = if w == 0 then codes "nop" else word_by register_read_text w (form_of w)

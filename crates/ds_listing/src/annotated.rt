@@ -1,10 +1,11 @@
 //! The listing of a source.
 ghost use Rattle.std.specs.Prelude.{◌≡◌, ◌≤◌, ◌++◌, ℕ, List, IfOk, Ok, length, take, drop};
 ghost use Rattle.std.specs.List.{flat_map};
-ghost use Rattle.ds_asm.specs.Assembling.{Assembles};
-ghost use Rattle.ds_asm.specs.Assembly.{Layout, assembled, empty_layout, lines_of, with_lines};
-ghost use Rattle.ds_listing.specs.Came.{ComesOf, EndsSo};
-ghost use Rattle.ds_listing.specs.Listing.{EndsWithLabels, Shows, listing_of, rows_of, rows_text};
+ghost use Rattle.ds_asm.specs.Inner.Assembling.{Assembles};
+ghost use Rattle.ds_asm.specs.Assembly.{Layout, assembled, empty_layout, lines_of, laid_lines};
+ghost use Rattle.ds_listing.specs.Inner.Came.{ComesOf, EndsSo};
+ghost use Rattle.ds_listing.specs.Listing.{listing_of, rows_of, rows_text};
+ghost use Rattle.ds_listing.specs.Inner.Listing.{EndsWithLabels, Shows};
 
 use crate::sheet::Row;
 use ds_asm::{
@@ -20,7 +21,7 @@ pub fn listing(alloc: Global, text: &[u8]) -> Result<Vec<u8>, AsmFault>
     ensures text { Assembles (λ v. v.items) result (listing_of text.now) }
     ensures image { (image : List ℕ) → assembled text.now ≡ Ok image
         → Shows (rows_of text.now image) image }
-    ensures labels { (layout : Layout) → with_lines 1 empty_layout (lines_of text.now) ≡ Ok layout
+    ensures labels { (layout : Layout) → laid_lines 1 empty_layout (lines_of text.now) ≡ Ok layout
         → IfOk result (λ v. EndsWithLabels layout.labels v.items) }
 {
     let image = assemble(alloc, text)?;
@@ -41,7 +42,7 @@ pub fn listing_or_faults(alloc: Global, text: &[u8]) -> Result<Listed, AllocErro
     ensures text { IfOk result (λ came. ComesOf text.now came) }
     ensures image { (image : List ℕ) → assembled text.now ≡ Ok image
         → Shows (rows_of text.now image) image }
-    ensures labels { (layout : Layout) → with_lines 1 empty_layout (lines_of text.now) ≡ Ok layout
+    ensures labels { (layout : Layout) → laid_lines 1 empty_layout (lines_of text.now) ≡ Ok layout
         → IfOk result (λ came. EndsSo layout.labels came) }
 {
     match assemble_or_faults(alloc, text)? {
@@ -67,7 +68,7 @@ fn sheet_of(alloc: Global, text: &[u8], image: &[u8]) -> Result<Vec<u8>, AllocEr
     let mut rest = text;
     let mut left = image;
     while !rest.is_empty() {
-        let (line, behind) = first_line(rest);
+        let (line, afterwards) = first_line(rest);
         let said = source_line(line);
         let (bytes, further) = cut(left, said.size);
         number += 1;
@@ -82,7 +83,7 @@ fn sheet_of(alloc: Global, text: &[u8], image: &[u8]) -> Result<Vec<u8>, AllocEr
         row.push_label(&mut labels)?;
         place += bytes.len() as u32;
         left = further;
-        rest = behind;
+        rest = afterwards;
     }
     lines.extend_from_slice(b"labels\n")?;
     lines.extend_from_slice(&labels)?;
@@ -92,7 +93,7 @@ fn sheet_of(alloc: Global, text: &[u8], image: &[u8]) -> Result<Vec<u8>, AllocEr
 /// So many bytes, or all where they are fewer, and what stands after them.
 fn cut(bytes: &[u8], size: u64) -> (&[u8], &[u8])
     ensures front { result.0.now ≡ take size bytes.now }
-    ensures behind { result.1.now ≡ drop size bytes.now }
+    ensures afterwards { result.1.now ≡ drop size bytes.now }
 {
     if size < bytes.len() as u64 {
         bytes.split_at(size as usize)

@@ -3,9 +3,10 @@ ghost use Rattle.std.specs.Prelude.{◌≡◌, ◌<◌, ◌≤◌, ◌++◌, IfO
 ghost use Rattle.std.specs.List.{All};
 ghost use Rattle.std.specs.String.{string_bytes};
 ghost use Rattle.ds_asm.specs.Assembly.{assembled};
-ghost use Rattle.ds_listing.specs.Laws.{AreSaid};
+ghost use Rattle.ds_listing.specs.Inner.Laws.{AreSaid};
 ghost use Rattle.ds_listing.specs.NamedTexts.{bytes_as, file_as};
-ghost use Rattle.ds_listing.specs.Sources.{byte_line, byte_lines, elf_comment, source_of_file, word_of_bytes};
+ghost use Rattle.ds_listing.specs.Sources.{byte_line, byte_lines, elf_comment, word_of_bytes};
+ghost use Rattle.ds_listing.specs.Inner.Sources.{source_of_file};
 
 use crate::law::a_word_is_read_back;
 use crate::line::push_word_as;

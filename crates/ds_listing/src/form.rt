@@ -1,8 +1,9 @@
 //! How the instructions of the table are written.
 ghost use Rattle.std.specs.Prelude.{◌≡◌, option_map};
-ghost use Rattle.ds_isa.specs.Encoding.{entry};
-ghost use Rattle.ds_listing.specs.Plain.{plain_form};
-ghost use Rattle.ds_listing.specs.Texts.{form_in, form_of};
+ghost use Rattle.ds_isa.specs.Inner.Encoding.{entry};
+ghost use Rattle.ds_listing.specs.Inner.Plain.{plain_form};
+ghost use Rattle.ds_listing.specs.Texts.{form_of};
+ghost use Rattle.ds_listing.specs.Inner.Texts.{form_in};
 
 use crate::operand::Operand;
 use ds_isa::{Instr, decode, instruction_table};

@@ -1,5 +1,5 @@
 //! That texts of words say the words.
-ghost use Rattle.ds_listing.specs.Laws.{IsLineOf};
+ghost use Rattle.ds_listing.specs.Inner.Laws.{IsLineOf};
 ghost use Rattle.ds_listing.specs.Texts.{text_of};
 
 use ds_isa::round_trip;

@@ -20,5 +20,5 @@ pub use law::a_word_is_read_back;
 pub use line::{push_word, push_word_as};
 pub use names::{RegisterNames, push_register};
 pub use pages::{PageLines, push_address_place};
-pub use places::{Label, LinePlace, line_at, line_places, push_place};
+pub use places::{Label, LinePlace, line_of_byte, line_places, push_place};
 pub use source::source_of_words;

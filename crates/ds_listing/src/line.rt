@@ -2,9 +2,9 @@
 ghost use Rattle.std.specs.Prelude.{◌≡◌, ◌++◌, OnOk};
 ghost use Rattle.std.specs.String.{string_bytes};
 ghost use Rattle.ds_isa.specs.Fields.{in_word};
-ghost use Rattle.ds_listing.specs.Laws.{IsLineOf};
+ghost use Rattle.ds_listing.specs.Inner.Laws.{IsLineOf};
 ghost use Rattle.ds_listing.specs.NamedTexts.{register_as, text_as};
-ghost use Rattle.ds_listing.specs.Plain.{plain_form};
+ghost use Rattle.ds_listing.specs.Inner.Plain.{plain_form};
 ghost use Rattle.ds_listing.specs.Texts.{form_by, instruction_by, text_of, word_text};
 
 use crate::form::{Form, form_of};

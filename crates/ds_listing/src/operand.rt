@@ -4,7 +4,7 @@ ghost use Rattle.std.specs.List.{list_any};
 ghost use Rattle.std.specs.String.{string_bytes};
 ghost use Rattle.ds_isa.specs.Fields.{in_word};
 ghost use Rattle.ds_listing.specs.NamedTexts.{register_as};
-ghost use Rattle.ds_listing.specs.Plain.{operand_of};
+ghost use Rattle.ds_listing.specs.Inner.Plain.{operand_of};
 ghost use Rattle.ds_listing.specs.Texts.{operand_by, operands_by, others_by, is_left_out, is_label, has_label};
 
 use crate::digits::{push_distance, push_signed};

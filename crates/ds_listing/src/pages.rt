@@ -1,8 +1,8 @@
 //! Pages, with where their bytes stand in sources.
 ghost use Rattle.std.specs.Prelude.{◌≡◌, ◌++◌, OnOk, option_map};
-ghost use Rattle.ds_listing.specs.Pages.{byte_in, page_at, page_place, place_at, plain_page, plain_pages};
+ghost use Rattle.ds_listing.specs.Pages.{byte_in, page_at, address_place, place_of_address, plain_page, plain_pages};
 
-use crate::places::{LinePlace, line_at, push_place};
+use crate::places::{LinePlace, line_of_byte, push_place};
 use std::alloc::AllocError;
 
 /// A page that has a part of an image, with the lines of its source.
@@ -27,10 +27,10 @@ impl<'a> PageLines<'a> {
     /// Adds where an address within this page stands in its source.
     fn push_place(&self, text: &mut Vec<u8>, address: u32) -> Result<(), AllocError>
         ensures { OnOk result
-            (text.new.items ≡ text.old.items ++ page_place (plain_page self.now) address) }
+            (text.new.items ≡ text.old.items ++ address_place (plain_page self.now) address) }
     {
         let byte = self.byte(address);
-        let line = line_at(self.lines.as_slice(), byte);
+        let line = line_of_byte(self.lines.as_slice(), byte);
         push_place(text, self.source, byte, line)
     }
 }
@@ -61,7 +61,7 @@ pub fn push_address_place(
     address: u32,
 ) -> Result<(), AllocError>
     ensures { OnOk result (text.new.items
-        ≡ text.old.items ++ place_at (plain_pages pages.now) number address) }
+        ≡ text.old.items ++ place_of_address (plain_pages pages.now) number address) }
 {
     match page_at(pages, number) {
         Some(page) => page.push_place(text, address),

@@ -1,7 +1,7 @@
 //! Where the bytes of an image stand in its source.
 ghost use Rattle.std.specs.Prelude.{◌≡◌, ◌≤◌, ◌<◌, ◌++◌, ◌==◌, ◌-◌, None, IfOk, OnOk, drop, length, map, option_map, take};
 ghost use Rattle.ds_listing.specs.Listing.{rows_of};
-ghost use Rattle.ds_listing.specs.Places.{label_behind, label_over, label_text, line_at, offset_text, place_text, places_of, plain_label, plain_place};
+ghost use Rattle.ds_listing.specs.Places.{label_past, label_over, label_text, line_of_byte, offset_text, place_text, line_places_of, plain_label, plain_line_place};
 
 use ds_asm::{Image, first_line, source_line};
 use ds_text::sheet::push_decimal;
@@ -44,12 +44,12 @@ fn label_over<'a>(before: Option<Label<'a>>, place: u32, name: &'a [u8]) -> Opti
 }
 
 /// The last label after a line at a place, which has a label or none.
-fn label_behind<'a>(
+fn label_past<'a>(
     before: Option<Label<'a>>,
     place: u32,
     label: Option<&'a [u8]>,
 ) -> Option<Label<'a>>
-    ensures { option_map plain_label result ≡ label_behind (option_map plain_label before.entry)
+    ensures { option_map plain_label result ≡ label_past (option_map plain_label before.entry)
         place (option_map (λ t. t.now) label.entry) }
 {
     match label {
@@ -65,8 +65,8 @@ pub fn line_places<'a>(
     text: &'a [u8],
     image: &Image,
 ) -> Result<Vec<LinePlace<'a>>, AllocError>
-    ensures { IfOk result (λ v. map plain_place v.items
-        ≡ places_of (rows_of text.entry.now image.now)) }
+    ensures { IfOk result (λ v. map plain_line_place v.items
+        ≡ line_places_of (rows_of text.entry.now image.now)) }
 {
     prove!(image.len() <= 65536);
     places_between(alloc, text, image.bytes())
@@ -78,8 +78,8 @@ fn places_between<'a>(
     image: &[u8],
 ) -> Result<Vec<LinePlace<'a>>, AllocError>
     requires { length image.now ≤ 65536 }
-    ensures { IfOk result (λ v. map plain_place v.items
-        ≡ places_of (rows_of text.entry.now image.now)) }
+    ensures { IfOk result (λ v. map plain_line_place v.items
+        ≡ line_places_of (rows_of text.entry.now image.now)) }
 {
     let mut places = Vec::new(alloc);
     let mut label = None;
@@ -88,11 +88,11 @@ fn places_between<'a>(
     let mut rest = text;
     let mut left = image;
     while !rest.is_empty() {
-        let (line, behind) = first_line(rest);
+        let (line, afterwards) = first_line(rest);
         let said = source_line(line);
         let (bytes, further) = cut(left, said.size);
         number += 1;
-        label = label_behind(label, place, said.label);
+        label = label_past(label, place, said.label);
         place += bytes.len() as u32;
         places.push(LinePlace {
             number,
@@ -100,7 +100,7 @@ fn places_between<'a>(
             label,
         })?;
         left = further;
-        rest = behind;
+        rest = afterwards;
     }
     Ok(places)
 }
@@ -108,7 +108,7 @@ fn places_between<'a>(
 /// So many bytes, or all where they are fewer, and what stands after them.
 fn cut(bytes: &[u8], size: u64) -> (&[u8], &[u8])
     ensures front { result.0.now ≡ take size bytes.now }
-    ensures behind { result.1.now ≡ drop size bytes.now }
+    ensures afterwards { result.1.now ≡ drop size bytes.now }
 {
     if size < bytes.len() as u64 {
         bytes.split_at(size as usize)
@@ -118,8 +118,8 @@ fn cut(bytes: &[u8], size: u64) -> (&[u8], &[u8])
 }
 
 /// The line of a byte of the image: the first that ends past it.
-pub fn line_at<'a>(lines: &[LinePlace<'a>], byte: u32) -> Option<LinePlace<'a>>
-    ensures { option_map plain_place result ≡ line_at byte (map plain_place lines.now) }
+pub fn line_of_byte<'a>(lines: &[LinePlace<'a>], byte: u32) -> Option<LinePlace<'a>>
+    ensures { option_map plain_line_place result ≡ line_of_byte byte (map plain_line_place lines.now) }
 {
     for line in lines {
         if byte < line.end {
@@ -164,7 +164,7 @@ pub fn push_place<'a>(
     line: Option<LinePlace<'a>>,
 ) -> Result<(), AllocError>
     ensures { OnOk result (text.new.items ≡ text.old.items
-        ++ place_text source.now byte (option_map plain_place line.entry)) }
+        ++ place_text source.now byte (option_map plain_line_place line.entry)) }
 {
     match line {
         Some(line) => {

@@ -1,8 +1,8 @@
 //! Parts of a listing, as bytes.
 ghost use Rattle.std.specs.Prelude.{◌≡◌, ◌+◌, ◌<◌, ◌≤◌, ◌++◌, ◌∷◌, [], OnOk, codes, decimal, length, option_map, replicate};
 ghost use Rattle.ds_asm.specs.Assembly.{origin};
-ghost use Rattle.ds_listing.specs.Listing.{address_text, behind_number, bytes_text, label_text, blanks_before, row_text, shown_text};
-ghost use Rattle.ds_listing.specs.Plain.{plain_row};
+ghost use Rattle.ds_listing.specs.Listing.{address_text, after_number, bytes_text, label_line_text, blanks_before, row_text, shown_text};
+ghost use Rattle.ds_listing.specs.Inner.Plain.{plain_row};
 ghost use Rattle.ds_text.specs.Digits.{hex2};
 
 use ds_asm::ORIGIN;
@@ -44,17 +44,17 @@ impl<'a> Row<'a> {
     {
         push_number(sheet, buffer, self.number)?;
         if !self.text.is_empty() {
-            self.push_behind_number(sheet)?;
+            self.push_after_number(sheet)?;
         }
         sheet.push(b'\n')?;
         Ok(())
     }
 
-    fn push_behind_number(&self, sheet: &mut Vec<u8>) -> Result<(), AllocError>
+    fn push_after_number(&self, sheet: &mut Vec<u8>) -> Result<(), AllocError>
         requires within { self.now.place ≤ 65536 }
         requires text { 0 < length self.now.text.now }
         ensures { OnOk result (sheet.new.items
-            ≡ sheet.old.items ++ behind_number (plain_row self.now) self.now.text.now) }
+            ≡ sheet.old.items ++ after_number (plain_row self.now) self.now.text.now) }
     {
         push_shown(sheet, self.place, self.bytes)?;
         sheet.extend_from_slice(self.text)
@@ -64,7 +64,7 @@ impl<'a> Row<'a> {
     pub(crate) fn push_label(&self, sheet: &mut Vec<u8>) -> Result<(), AllocError>
         requires { self.now.place ≤ 65536 }
         ensures { OnOk result (sheet.new.items ≡ sheet.old.items
-            ++ label_text self.now.place (option_map (λ t. t.now) self.now.label)) }
+            ++ label_line_text self.now.place (option_map (λ t. t.now) self.now.label)) }
     {
         match self.label {
             Some(name) => {

@@ -1,9 +1,9 @@
 //! The source of words.
 ghost use Rattle.std.specs.Prelude.{◌≡◌, ◌≤◌, IfOk, Ok, length};
 ghost use Rattle.std.specs.String.{string_bytes};
-ghost use Rattle.ds_word.specs.Bytes.{bytes_of_words};
+ghost use Rattle.ds_word.specs.Inner.Bytes.{bytes_of_words};
 ghost use Rattle.ds_asm.specs.Assembly.{assembled};
-ghost use Rattle.ds_listing.specs.Texts.{source_of};
+ghost use Rattle.ds_listing.specs.Inner.Texts.{source_of};
 
 use crate::line::push_word;
 use std::alloc::{AllocError, Global};

@@ -9,7 +9,7 @@ use Rattle.ds_log.specs.declared.line.Line.TheVariants.{Denial, Refused}
 use Rattle.ds_log.specs.declared.line.Denied.{Denied}
 use Rattle.ds_log.specs.declared.line.Denied.TheVariants as denied
 use Rattle.ds_log.specs.Text.{line_text, kind_text, rule_text}
-use Rattle.ds_log.specs.Length.{IsShort, IsShortRule}
+use Rattle.ds_log.specs.Inner.Length.{IsShort, IsShortRule}
 
 length-kind_text-le : (kind : Denied) → length (kind_text kind) ≤ 5
 length-kind_text-le denied.Fetch = omega arith

@@ -4,7 +4,7 @@ use Rattle.std.proofs.lemmas.List.{take-append-drop}
 use Rattle.std.specs.Prelude.{Option, Some, None, flat_map, Result, Ok, Err, OnOk, OnErr}
 use Rattle.std.specs.Io.KnownBytes.{Appends, Keeps}
 use Rattle.std.proofs.Math.Seq.{take-add}
-use Rattle.ds_log.specs.Sent.{Answers, AppendsPart, HasAnswered, IsAskedOnce}
+use Rattle.ds_log.specs.Sent.{WriterAnswers, AppendsPart, HasAnswered, IsAskedOnce}
 
 -- nothing was written
 pub appends_none : (a : Option (List ℕ)) → Appends a a []
@@ -30,8 +30,8 @@ pub part_of_text : (old new : Option (List ℕ)) (text : List ℕ) (n : ℕ) →
 part_of_text old new text n a = record { part = take n text; rest = drop n text; whole = take-append-drop n text; appends = a }
 
 -- what was sent, and a part of what is after it
-pub part_behind : (a b d : Option (List ℕ)) (before rest : List ℕ) → Appends a b before → AppendsPart b d rest → AppendsPart a d (before ++ rest)
-part_behind a b d before rest p q = record {
+pub part_after : (a b d : Option (List ℕ)) (before rest : List ℕ) → Appends a b before → AppendsPart b d rest → AppendsPart a d (before ++ rest)
+part_after a b d before rest p q = record {
   part = before ++ q.part;
   rest = q.rest;
   whole = append_assoc before q.part q.rest ∙ ap (λ xs. before ++ xs) q.whole;
@@ -39,11 +39,11 @@ part_behind a b d before rest p q = record {
 }
 
 -- a part of a piece is a part of the text that begins with it
-pub part_before : (a d : Option (List ℕ)) (piece behind : List ℕ) → AppendsPart a d piece → AppendsPart a d (piece ++ behind)
-part_before a d piece behind q = record {
+pub part_before : (a d : Option (List ℕ)) (piece afterwards : List ℕ) → AppendsPart a d piece → AppendsPart a d (piece ++ afterwards)
+part_before a d piece afterwards q = record {
   part = q.part;
-  rest = q.rest ++ behind;
-  whole = sym (append_assoc q.part q.rest behind) ∙ ap (λ xs. xs ++ behind) q.whole;
+  rest = q.rest ++ afterwards;
+  whole = sym (append_assoc q.part q.rest afterwards) ∙ ap (λ xs. xs ++ afterwards) q.whole;
   appends = q.appends;
 }
 
@@ -87,7 +87,7 @@ or_false true = refl
 or_false false = refl
 
 -- a place that had not ended took something
-pub asked_more : (a b d : Option Answers) (nothing : Bool) → IsAskedOnce a b false → nothing ≡ false → HasAnswered b d nothing → IsAskedOnce a d false
+pub asked_more : (a b d : Option WriterAnswers) (nothing : Bool) → IsAskedOnce a b false → nothing ≡ false → HasAnswered b d nothing → IsAskedOnce a d false
 asked_more None b d nothing p e q = tt
 asked_more (Some x) None d nothing p e q = absurd p
 asked_more (Some x) (Some y) None nothing p e q = q
@@ -95,7 +95,7 @@ asked_more (Some x) (Some y) (Some z) nothing p e q =
     λ going. (q.0 ∙ rw ((p going).0, e) refl, q.1 ∙ rw ((p going).0) (ap (λ (l : Bool). l || false) (p going).1 ∙ or_false x.asked_later))
 
 -- and at last it took nothing
-pub asked_last : (a b d : Option Answers) (nothing : Bool) → IsAskedOnce a b false → nothing ≡ true → HasAnswered b d nothing → IsAskedOnce a d true
+pub asked_last : (a b d : Option WriterAnswers) (nothing : Bool) → IsAskedOnce a b false → nothing ≡ true → HasAnswered b d nothing → IsAskedOnce a d true
 asked_last None b d nothing p e q = tt
 asked_last (Some x) None d nothing p e q = absurd p
 asked_last (Some x) (Some y) None nothing p e q = q
@@ -103,7 +103,7 @@ asked_last (Some x) (Some y) (Some z) nothing p e q =
     λ going. (q.0 ∙ rw ((p going).0, e) refl, q.1 ∙ rw ((p going).0) (ap (λ (l : Bool). l || false) (p going).1 ∙ or_false x.asked_later))
 
 -- it took all of a text, and of another what it took
-pub asked_both : (a b d : Option Answers) (failed : Bool) → IsAskedOnce a b false → IsAskedOnce b d failed → IsAskedOnce a d failed
+pub asked_both : (a b d : Option WriterAnswers) (failed : Bool) → IsAskedOnce a b false → IsAskedOnce b d failed → IsAskedOnce a d failed
 asked_both None b d failed p q = tt
 asked_both (Some x) None d failed p q = absurd p
 asked_both (Some x) (Some y) None failed p q = q

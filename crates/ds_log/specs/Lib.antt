@@ -1,4 +1,4 @@
-pub mod Length
 pub mod Text
 pub mod Report
 pub mod Sent
+pub mod Inner

@@ -1,7 +1,7 @@
 //! The text of the log.
 
 ghost use Rattle.std.specs.Prelude.{◌≡◌, ℕ, ◌+◌, ◌^◌, ◌<◌, ◌≤◌, ◌++◌, length, flat_map, vec_len, vec_capacity, OnOk, OnErr, IsOk};
-ghost use Rattle.ds_log.specs.Length.{IsShort};
+ghost use Rattle.ds_log.specs.Inner.Length.{IsShort};
 ghost use Rattle.ds_log.specs.Text.{line_text, kind_text, rule_text};
 
 use crate::line::{Denied, Line};

@@ -2,7 +2,7 @@
 ghost use Rattle.std.specs.Prelude.{ℕ, List, Option, None, OnOk, OnErr, flat_map, is_err};
 ghost use Rattle.std.specs.Io.{WritesAtMost};
 ghost use Rattle.std.specs.Io.KnownBytes.{Appends, WriteAppends};
-ghost use Rattle.ds_log.specs.Sent.{Answers, AppendsPart, HasAnswered, IsAskedOnce, takes_nothing};
+ghost use Rattle.ds_log.specs.Sent.{WriterAnswers, AppendsPart, HasAnswered, IsAskedOnce, takes_nothing};
 
 use std::io;
 use std::io::Write;
@@ -20,7 +20,7 @@ pub trait Output {
     ghost contents: { Self → Option (List ℕ) } = { λ _. None };
 
     /// What it has answered so far, where its answers are counted.
-    ghost answers: { Self → Option Answers } = { λ _. None };
+    ghost answers: { Self → Option WriterAnswers } = { λ _. None };
 
     /// Takes some of these bytes, from the first on, and answers how many.
     fn take(&mut self, bytes: &[u8]) -> io::Result<usize>

@@ -2,7 +2,7 @@
 use Rattle.std.proofs.Common.{◌≡◌, ◌≢◌, ◌∙◌, refl, ap, ℕ, suc, ◌+◌, Bool, true, List, [], ◌∷◌, ◌++◌, append-nil, codes, decimal, length, length-append, arith}
 use Rattle.ds_text.specs.Digits.{hex8}
 use Rattle.ds_policy.specs.declared.grant.Entry.{Entry}
-use Rattle.ds_log_reasons.specs.Sentences.{Placed, alone_text, at_text, command_text, mend_line, near_text, number_text, or_address, slot_text}
+use Rattle.ds_log_reasons.specs.Sentences.{Placed, alone_text, at_text, command_text, mend_line, near_text, rule_number_text, or_address, slot_text}
 
 -- what is said where an instruction is in a slot
 pub in_slot : (x : Placed) (es : List Entry) (unit : ℕ) (slot : Bool) → slot ≡ true → codes ", in the slot of " ++ at_text x es unit ≡ slot_text x es unit slot
@@ -20,7 +20,7 @@ unfolding mend_line
 mend_is words = refl
 
 -- the nearest entry
-pub near_is : (policy : List ℕ) (e : Entry) → codes "no rule; the nearest entry is at " ++ (hex8 e.address ++ (codes ", by " ++ number_text policy e.grant.rule)) ≡ near_text policy e
+pub near_is : (policy : List ℕ) (e : Entry) → codes "no rule; the nearest entry is at " ++ (hex8 e.address ++ (codes ", by " ++ rule_number_text policy e.grant.rule)) ≡ near_text policy e
 unfolding near_text
 near_is policy e = refl
 

@@ -4,7 +4,7 @@ use Rattle.std.specs.Prelude.{cond, not, bytes_eq, position, slice_get, option_a
 use Rattle.std.specs.List.{position_or_len}
 use Rattle.std.proofs.lemmas.Option.{slice_get-map}
 use Rattle.std.proofs.lemmas.List.{length-map}
-use Rattle.ds_check.specs.Starts.{assembled}
+use Rattle.ds_check.specs.Inner.Starts.{assembled}
 use Rattle.ds_log_reasons.specs.Places.{lines_between, lines_in}
 use Rattle.ds_check.specs.declared.starts.AssembledSources.{AssembledSources}
 

@@ -6,3 +6,4 @@ pub mod Values
 pub mod Words
 pub mod Sentences
 pub mod Rows
+pub mod Inner

@@ -2,7 +2,7 @@
 use Rattle.std.specs.Prelude.{ℕ, ◌-◌, ◌^◌, ◌==◌, bytes_eq, codes, if◌then◌else◌, List, [], ◌∷◌, Option, Some, None}
 use Rattle.ds_word.specs.Digits.{digits_from}
 use Rattle.ds_word.specs.OptionBinding.{◌>>=◌}
-use Rattle.ds_packets.specs.Words.{after, before}
+use Rattle.ds_packets.specs.Words.{after_mark, before}
 use Rattle.ds_policy.specs.declared.access.Rule.{Rule}
 use Rattle.ds_policy.specs.declared.access.Rule.TheVariants.{Number, K, A, I}
 use Rattle.ds_log.specs.declared.line.Line.{Line}
@@ -34,25 +34,25 @@ rule_by letter digits =
     else None
 
 -- by the log's word for it
-abbrev pub rule_of : List ℕ → Option Rule
-rule_of [] = None
-rule_of (letter ∷ digits) = rule_by letter digits
+abbrev pub log_rule_of : List ℕ → Option Rule
+log_rule_of [] = None
+log_rule_of (letter ∷ digits) = rule_by letter digits
 
 -- a denial, by its time, its process, and what comes after these: its address, what was denied, the address of that, by which rule, and the code
 abbrev pub denial_of : ℕ → ℕ → List ℕ → Option Line
 denial_of time process rest =
     number 16 (before 32 rest) >>= λ pc.
-    kind_of (before 32 (after 32 rest)) >>= λ kind.
-    number 16 (before 32 (after 32 (after 32 rest))) >>= λ addr.
-    rule_of (before 32 (after 32 (after 32 (after 32 rest)))) >>= λ rule.
-    number 10 (after 32 (after 32 (after 32 (after 32 rest)))) >>= λ code.
+    kind_of (before 32 (after_mark 32 rest)) >>= λ kind.
+    number 16 (before 32 (after_mark 32 (after_mark 32 rest))) >>= λ addr.
+    log_rule_of (before 32 (after_mark 32 (after_mark 32 (after_mark 32 rest)))) >>= λ rule.
+    number 10 (after_mark 32 (after_mark 32 (after_mark 32 (after_mark 32 rest)))) >>= λ code.
     Some (Denial time process pc kind addr rule code)
 
 -- a refused command, by its time, and what comes after `command`: its number, `refused`, and the refusal's number
 abbrev pub refused_of : ℕ → List ℕ → Option Line
 refused_of time rest =
     number 10 (before 32 rest) >>= λ command.
-    number 10 (after 32 (after 32 rest)) >>= λ number.
+    number 10 (after_mark 32 (after_mark 32 rest)) >>= λ number.
     Some (Refused time command number)
 
 -- by the word after its time
@@ -62,5 +62,5 @@ by_second time second rest =
     else (number 10 second >>= λ process. denial_of time process rest)
 
 -- the line of the log that a text without its line feed says
-abbrev pub line_of : List ℕ → Option Line
-line_of text = number 10 (before 32 text) >>= λ time. by_second time (before 32 (after 32 text)) (after 32 (after 32 text))
+abbrev pub log_line_of : List ℕ → Option Line
+log_line_of text = number 10 (before 32 text) >>= λ time. by_second time (before 32 (after_mark 32 text)) (after_mark 32 (after_mark 32 text))

@@ -3,13 +3,13 @@ use Rattle.std.specs.Prelude.{ℕ, bytes_eq, List, map, position, slice_get, Opt
 use Rattle.ds_check.specs.Starts.{Assembled}
 use Rattle.ds_listing.specs.Listing.{rows_of}
 use Rattle.ds_listing.specs.Pages.{PagePlaces}
-use Rattle.ds_listing.specs.Places.{LinePlace, places_of}
+use Rattle.ds_listing.specs.Places.{LinePlace, line_places_of}
 use Rattle.ds_policy.specs.declared.policy.PolicyPage.{PolicyPage}
 use Rattle.ds_policy.specs.declared.policy.Source.{Source}
 
 -- the lines of a text with an image, where both are there
 abbrev pub lines_between : Option (List ℕ) → Option (List ℕ) → Option (List LinePlace)
-lines_between (Some text) (Some image) = Some (places_of (rows_of text image))
+lines_between (Some text) (Some image) = Some (line_places_of (rows_of text image))
 lines_between text image = None
 
 -- those of the source of a name, where there is one

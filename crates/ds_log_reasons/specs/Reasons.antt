@@ -29,9 +29,9 @@ grants None = false
 grants (Some rule) = is_some_right rule.right
 
 -- it grants writing
-abbrev pub is_written : Option PolicyRule → Bool
-is_written None = false
-is_written (Some rule) = is_write rule.right
+abbrev pub grants_writing : Option PolicyRule → Bool
+grants_writing None = false
+grants_writing (Some rule) = is_write rule.right
 
 -- why an entry by this rule has no right, where the policy's rule of that number is this one: numbers above 1,000 are those of commands
 abbrev pub taken_reason : ℕ → Option PolicyRule → Reason
@@ -42,7 +42,7 @@ abbrev pub read_reason : ℕ → ℕ → Option PolicyRule → Reason
 read_reason rule giver said =
     if not (giver == 0) then reason.GivenToRead
     else if nat_lt 1000 rule then reason.GrantedToRead
-    else if is_written said then reason.Narrowed
+    else if grants_writing said then reason.Narrowed
     else reason.ReadAlone
 
 -- why an access was denied by an entry with this right
@@ -93,8 +93,8 @@ fault_reason code branch =
     else reason.Unknown
 
 -- why something was denied: by the rule and the code of its line, what was answered to a give, the entry there, what the policy's rule of its number says, and whether the instruction is a branch
-abbrev pub reason_of : Denied → Rule → ℕ → ℕ → Option Grant → Option PolicyRule → Bool → Reason
-reason_of kind (Number n) code answer g said branch = number_reason kind answer g said
-reason_of kind K code answer g said branch = reason.Kernel
-reason_of kind A code answer g said branch = reason.Unaligned
-reason_of kind I code answer g said branch = fault_reason code branch
+abbrev pub denial_reason_of : Denied → Rule → ℕ → ℕ → Option Grant → Option PolicyRule → Bool → Reason
+denial_reason_of kind (Number n) code answer g said branch = number_reason kind answer g said
+denial_reason_of kind K code answer g said branch = reason.Kernel
+denial_reason_of kind A code answer g said branch = reason.Unaligned
+denial_reason_of kind I code answer g said branch = fault_reason code branch

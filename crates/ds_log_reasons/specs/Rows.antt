@@ -2,9 +2,9 @@
 use Rattle.std.specs.Prelude.{codes, refl, ◌≡◌, ℕ, List, Bool, true, false, [], ◌∷◌, ◌++◌, map, replicate, slice_set, Option, Some, None}
 use Rattle.std.specs.Fmt.{digits}
 use Rattle.ds_word.specs.Digits.{digits_from}
-use Rattle.ds_asm.specs.OnLiterals.{asm_on_literals}
+use Rattle.ds_asm.specs.Inner.OnLiterals.{asm_on_literals}
 use Rattle.ds_listing.specs.Listing.{rows_of}
-use Rattle.ds_listing.specs.Places.{places_of}
+use Rattle.ds_listing.specs.Places.{line_places_of}
 use Rattle.ds_listing.specs.Texts.{form_of, is_label, text_of}
 use Rattle.ds_text.specs.Digits.{hex4, hex8}
 use Rattle.ds_log.specs.declared.line.Line.TheVariants as line
@@ -17,10 +17,10 @@ use Rattle.ds_policy.specs.declared.grant.Grant.{Grant}
 use Rattle.ds_policy.specs.declared.grant.Right.{Right}
 use Rattle.ds_policy.specs.declared.grant.Right.TheVariants.{Nothing, Read, Write}
 use Rattle.ds_policy.specs.declared.policy.PolicyRule.{PolicyRule}
-use Rattle.ds_log_reasons.specs.Lines.{line_of}
+use Rattle.ds_log_reasons.specs.Lines.{log_line_of}
 use Rattle.ds_log_reasons.specs.Nearest.{nearest}
-use Rattle.ds_log_reasons.specs.Reasons.{reason_of}
-use Rattle.ds_log_reasons.specs.Sentences.{Placed, Sighted, alone_text, at_text, by_text, command_text, decided_text, denial_text, did_text, meaning_line, mend_line, near_text, nearest_text, number_text, process_text, refused_text, slot_text, what_text}
+use Rattle.ds_log_reasons.specs.Reasons.{denial_reason_of}
+use Rattle.ds_log_reasons.specs.Sentences.{Placed, Sighted, alone_text, at_text, by_text, command_text, decided_text, denial_text, did_text, meaning_line, mend_line, near_text, nearest_text, rule_number_text, process_text, refused_text, slot_text, what_text}
 use Rattle.ds_log_reasons.specs.Values.{value_text, values_text}
 use Rattle.ds_log_reasons.specs.Words.{command_mend, command_words, mend_words, reason_words}
 use Rattle.ds_log_reasons.specs.declared.reason.Reason.{Reason}
@@ -29,12 +29,12 @@ use Rattle.ds_log_reasons.specs.declared.sentences.Denial.{Denial}
 
 -- A line is read back.
 
-pub a_denial_and_a_refused_command : map line_of (codes "17 2 0040001C store 00410ABC r1002 1" ∷ codes "5 command 12 refused 16" ∷ [])
+pub a_denial_and_a_refused_command : map log_line_of (codes "17 2 0040001C store 00410ABC r1002 1" ∷ codes "5 command 12 refused 16" ∷ [])
     ≡ Some (line.Denial 17 2 0x0040001C denied.Store 0x00410ABC (rule.Number 1002) 1) ∷ Some (line.Refused 5 12 16) ∷ []
 unfolding digits_from
 a_denial_and_a_refused_command = refl
 
-pub rules_by_letters : map line_of (codes "0 1 00400000 exec 00400000 I 12" ∷ codes "0 1 00400000 load 80000000 K 4" ∷ codes "0 1 00400000 fetch 00400002 A 4" ∷ codes "0 1 00400000 give 00410000 r0 8" ∷ [])
+pub rules_by_letters : map log_line_of (codes "0 1 00400000 exec 00400000 I 12" ∷ codes "0 1 00400000 load 80000000 K 4" ∷ codes "0 1 00400000 fetch 00400002 A 4" ∷ codes "0 1 00400000 give 00410000 r0 8" ∷ [])
     ≡ Some (line.Denial 0 1 0x00400000 denied.Exec 0x00400000 rule.I 12)
     ∷ Some (line.Denial 0 1 0x00400000 denied.Load 0x80000000 rule.K 4)
     ∷ Some (line.Denial 0 1 0x00400000 denied.Fetch 0x00400002 rule.A 4)
@@ -42,7 +42,7 @@ pub rules_by_letters : map line_of (codes "0 1 00400000 exec 00400000 I 12" ∷ 
 unfolding digits_from
 rules_by_letters = refl
 
-pub other_texts_are_no_line : map line_of (codes "" ∷ codes "time 5" ∷ codes "1 1 00400000 reads 00410000 r2 1" ∷ codes "1 1 00400000 load 00410000 x2 1" ∷ []) ≡ None ∷ None ∷ None ∷ None ∷ []
+pub other_texts_are_no_line : map log_line_of (codes "" ∷ codes "time 5" ∷ codes "1 1 00400000 reads 00410000 r2 1" ∷ codes "1 1 00400000 load 00410000 x2 1" ∷ []) ≡ None ∷ None ∷ None ∷ None ∷ []
 unfolding digits_from
 other_texts_are_no_line = refl
 
@@ -54,7 +54,7 @@ abbrev said : Right → Option PolicyRule
 said right = Some (record { process = 1; address = 0x00410000; right = right; page = None; give = false; until = None })
 
 abbrev why : Denied → Option Grant → Option PolicyRule → Reason
-why kind g s = reason_of kind (rule.Number 2) 1 0 g s false
+why kind g s = denial_reason_of kind (rule.Number 2) 1 0 g s false
 
 -- none, also where an instruction would be; a rule that grants nothing, one whose right has ended, one that a command took away; reading alone by a rule, by a command, narrowed, and given
 pub reasons_of_an_access : why denied.Store None None ∷ why denied.Fetch None None ∷ why denied.Load (Some (granted 2 Nothing 0 false)) (said Nothing) ∷ why denied.Load (Some (granted 2 Nothing 0 false)) (said Write)
@@ -64,7 +64,7 @@ pub reasons_of_an_access : why denied.Store None None ∷ why denied.Fetch None 
 reasons_of_an_access = refl
 
 abbrev why_refused : ℕ → Bool → Reason
-why_refused number give = reason_of denied.Give (rule.Number 2) 8 number (Some (granted 2 Write 0 give)) None false
+why_refused number give = denial_reason_of denied.Give (rule.Number 2) 8 number (Some (granted 2 Write 0 give)) None false
 
 -- by the number of the refusal, which has its reason in the entry where it is 15
 pub reasons_of_a_give : map (λ n. why_refused n true) (11 ∷ 12 ∷ 13 ∷ 14 ∷ 15 ∷ 16 ∷ 17 ∷ 18 ∷ 0 ∷ [])
@@ -75,13 +75,13 @@ pub reasons_of_no_leave : why_refused 12 false ∷ why_refused 15 false ∷ [] �
 reasons_of_no_leave = refl
 
 abbrev why_faulty : ℕ → Bool → Reason
-why_faulty code branch = reason_of denied.Exec rule.I code 0 None None branch
+why_faulty code branch = denial_reason_of denied.Exec rule.I code 0 None None branch
 
 pub reasons_of_faults : why_faulty 8 false ∷ why_faulty 9 false ∷ why_faulty 10 false ∷ why_faulty 10 true ∷ why_faulty 11 false ∷ why_faulty 12 false ∷ why_faulty 13 false ∷ []
     ≡ reason.CallInSlot ∷ reason.Breakpoint ∷ reason.NoInstruction ∷ reason.BranchInSlot ∷ reason.Coprocessor ∷ reason.Overflow ∷ reason.Unknown ∷ []
 reasons_of_faults = refl
 
-pub reasons_of_the_processor : reason_of denied.Load rule.K 4 0 None None false ∷ reason_of denied.Store rule.A 5 0 None None false ∷ [] ≡ reason.Kernel ∷ reason.Unaligned ∷ []
+pub reasons_of_the_processor : denial_reason_of denied.Load rule.K 4 0 None None false ∷ denial_reason_of denied.Store rule.A 5 0 None None false ∷ [] ≡ reason.Kernel ∷ reason.Unaligned ∷ []
 reasons_of_the_processor = refl
 
 -- Which entry is nearest.
@@ -107,7 +107,7 @@ shown = record {
   places = Some (record {
     source = codes "one.s";
     part = 0;
-    lines = places_of (rows_of (codes "        lui $8,0x41\nloop:   sw $0,4($8)\n        beq $0,$0,loop\n        add $9,$10,$11\n") (replicate 16 0));
+    lines = line_places_of (rows_of (codes "        lui $8,0x41\nloop:   sw $0,4($8)\n        beq $0,$0,loop\n        add $9,$10,$11\n") (replicate 16 0));
   }) ∷ None ∷ [];
 }
 
@@ -128,7 +128,7 @@ pub a_store_where_nothing_is : denial_text shown (denial 0x00400004 denied.Store
     ≡ codes "    process 1 at one.s:2 loop: sw $0,4($8), with $8 00420000\n"
     ++ codes "    by no rule; the nearest entry is at 00410000, by rule 2 (line 5 of the policy): nothing is granted at this page\n"
     ++ codes "    to mend: add a `[[rule]]` for this process and page address, or correct the address\n"
-unfolding text_of form_of hex4 hex8 is_label digits asm_on_literals at_text slot_text did_text what_text by_text number_text nearest_text decided_text value_text values_text reason_words mend_words denial_text process_text mend_line command_text near_text alone_text
+unfolding text_of form_of hex4 hex8 is_label digits asm_on_literals at_text slot_text did_text what_text by_text rule_number_text nearest_text decided_text value_text values_text reason_words mend_words denial_text process_text mend_line command_text near_text alone_text
 a_store_where_nothing_is = refl
 
 -- the instruction reads what the register held before its load
@@ -136,7 +136,7 @@ pub an_address_from_before_a_load : denial_text shown (denial 0x00400004 denied.
     ≡ codes "    process 1 at one.s:2 loop: sw $0,4($8), with $8 00410000 (from before its load)\n"
     ++ codes "    by rule 2 (line 5 of the policy), page data: it grants reading alone\n"
     ++ codes "    to mend: write the right `write` there, or store to another page\n"
-unfolding text_of form_of hex4 hex8 is_label digits asm_on_literals at_text slot_text did_text what_text by_text number_text nearest_text decided_text value_text values_text reason_words mend_words denial_text process_text mend_line command_text near_text alone_text
+unfolding text_of form_of hex4 hex8 is_label digits asm_on_literals at_text slot_text did_text what_text by_text rule_number_text nearest_text decided_text value_text values_text reason_words mend_words denial_text process_text mend_line command_text near_text alone_text
 an_address_from_before_a_load = refl
 
 -- in the slot of the branch in line 3, two numbers whose sum does not fit
@@ -144,7 +144,7 @@ pub an_overflow_in_a_slot : denial_text shown (denial 0x0040000C denied.Exec 0x0
     ≡ codes "    process 1 at one.s:4 loop+8, in the slot of one.s:3 loop+4: add $9,$10,$11, with $10 7FFFFFFF and $11 00000001\n"
     ++ codes "    by the processor: 12: the result does not fit into 32 bits with a sign\n"
     ++ codes "    to mend: write `addu`, `addiu` or `subu`, which wrap around, or use smaller numbers\n"
-unfolding text_of form_of hex4 hex8 is_label digits asm_on_literals at_text slot_text did_text what_text by_text number_text nearest_text decided_text value_text values_text reason_words mend_words denial_text process_text mend_line command_text near_text alone_text
+unfolding text_of form_of hex4 hex8 is_label digits asm_on_literals at_text slot_text did_text what_text by_text rule_number_text nearest_text decided_text value_text values_text reason_words mend_words denial_text process_text mend_line command_text near_text alone_text
 an_overflow_in_a_slot = refl
 
 -- two numbers of which one is from before its load
@@ -152,7 +152,7 @@ pub an_overflow_from_before_a_load : denial_text shown (denial 0x0040000C denied
     ≡ codes "    process 1 at one.s:4 loop+8: add $9,$10,$11, with $10 7FFFFFFF and $11 00000002 (from before its load)\n"
     ++ codes "    by the processor: 12: the result does not fit into 32 bits with a sign\n"
     ++ codes "    to mend: write `addu`, `addiu` or `subu`, which wrap around, or use smaller numbers\n"
-unfolding text_of form_of hex4 hex8 is_label digits asm_on_literals at_text slot_text did_text what_text by_text number_text nearest_text decided_text value_text values_text reason_words mend_words denial_text process_text mend_line command_text near_text alone_text
+unfolding text_of form_of hex4 hex8 is_label digits asm_on_literals at_text slot_text did_text what_text by_text rule_number_text nearest_text decided_text value_text values_text reason_words mend_words denial_text process_text mend_line command_text near_text alone_text
 an_overflow_from_before_a_load = refl
 
 -- a give that is answered 16
@@ -160,7 +160,7 @@ pub a_refused_give : denial_text shown (denial 0x00400004 denied.Give 0x00410000
     ≡ codes "    process 1 at one.s:2 loop: syscall, with $4 00000000, $5 00000000, $6 00000000 and $7 00000000\n"
     ++ codes "    by rule 2 (line 5 of the policy), page data: 16: the receiver has an entry at its address already\n"
     ++ codes "    to mend: write another address into register 6, or let the receiver `drop` that entry before\n"
-unfolding text_of form_of hex4 hex8 is_label digits asm_on_literals at_text slot_text did_text what_text by_text number_text nearest_text decided_text value_text values_text reason_words mend_words denial_text process_text mend_line command_text near_text alone_text
+unfolding text_of form_of hex4 hex8 is_label digits asm_on_literals at_text slot_text did_text what_text by_text rule_number_text nearest_text decided_text value_text values_text reason_words mend_words denial_text process_text mend_line command_text near_text alone_text
 a_refused_give = refl
 
 -- an entry by a command, which another process gave, and a place outside of all sources
@@ -168,7 +168,7 @@ pub a_fetch_that_is_denied : denial_text shown (denial 0x00500000 denied.Fetch 0
     ≡ codes "    process 1 at 00500000: no instruction was fetched\n"
     ++ codes "    by command 3 of the input, given by process 2: it took the right away\n"
     ++ codes "    to mend: leave that command out, or grant the page anew by a later command\n"
-unfolding text_of form_of hex4 hex8 is_label digits asm_on_literals at_text slot_text did_text what_text by_text number_text nearest_text decided_text value_text values_text reason_words mend_words denial_text process_text mend_line command_text near_text alone_text
+unfolding text_of form_of hex4 hex8 is_label digits asm_on_literals at_text slot_text did_text what_text by_text rule_number_text nearest_text decided_text value_text values_text reason_words mend_words denial_text process_text mend_line command_text near_text alone_text
 a_fetch_that_is_denied = refl
 
 pub a_refused_command : refused_text 2 16

@@ -4,7 +4,7 @@ use Rattle.ds_isa.specs.Instruction.{instruction_of}
 use Rattle.ds_isa.specs.Shapes.{is_branch}
 use Rattle.ds_isa.specs.Uses.{uses}
 use Rattle.ds_isa.specs.declared.instr.Late.{Late}
-use Rattle.ds_listing.specs.Pages.{PagePlaces, place_at, plain_pages}
+use Rattle.ds_listing.specs.Pages.{PagePlaces, place_of_address}
 use Rattle.ds_listing.specs.Texts.{text_of}
 use Rattle.ds_text.specs.Digits.{hex8}
 use Rattle.ds_policy.specs.declared.access.Rule.{Rule}
@@ -15,19 +15,16 @@ use Rattle.ds_policy.specs.declared.policy.PolicyPage.{PolicyPage}
 use Rattle.ds_policy.specs.declared.policy.PolicyRule.{PolicyRule}
 use Rattle.ds_policy.specs.Pages.{found, page_address}
 use Rattle.ds_check.specs.Items.{item_place}
-use Rattle.ds_check.specs.Starts.{Assembled, assembled}
+use Rattle.ds_check.specs.Starts.{Assembled}
 use Rattle.ds_check.specs.declared.items.Items.TheVariants.{Rules}
 use Rattle.ds_log.specs.declared.line.Denied.{Denied}
 use Rattle.ds_log_reasons.specs.Nearest.{nearest}
 use Rattle.ds_log_reasons.specs.Places.{pages_with}
-use Rattle.ds_log_reasons.specs.Reasons.{reason_of}
+use Rattle.ds_log_reasons.specs.Reasons.{denial_reason_of}
 use Rattle.ds_log_reasons.specs.Values.{operands_for, values_text}
 use Rattle.ds_log_reasons.specs.Words.{command_mend, command_words, mend_words, reason_words}
 use Rattle.ds_log_reasons.specs.declared.reason.Reason.{Reason}
 use Rattle.ds_log_reasons.specs.declared.sentences.Denial.{Denial}
-use Rattle.ds_log_reasons.specs.declared.sentences.Known.{Known}
-use Rattle.ds_log_reasons.specs.declared.sentences.Sight.{Sight}
-use Rattle.ds_log_reasons.specs.declared.sentences.Texts.{Texts}
 
 -- what the words are taken from: the policy's text, its pages and rules, and the sources with their images
 pub record Context : Type 0 where
@@ -35,10 +32,6 @@ pub record Context : Type 0 where
   pub pages : List PolicyPage
   pub rules : List PolicyRule
   pub sources : Assembled
-
--- the same of the code's
-abbrev pub context : Texts → Context
-context t = record { text = t.text.now; pages = t.policy.now.pages; rules = t.policy.now.rules; sources = assembled t.sources }
 
 -- where the bytes of the pages stand in their sources, in place of these
 pub record Placed : Type 0 where
@@ -50,10 +43,6 @@ pub record Placed : Type 0 where
 abbrev pub placed : Context → Placed
 placed x = record { text = x.text; pages = x.pages; rules = x.rules; places = pages_with x.sources x.pages }
 
--- the same of the code's
-abbrev pub known_placed : Known → Placed
-known_placed k = record { text = k.text.now; pages = k.policy.now.pages; rules = k.policy.now.rules; places = plain_pages k.pages.now }
-
 -- what is seen of a process whose unit was stopped: where the unit began, the word of the instruction that was denied, the registers before it and the one whose load is late then, the entries, and what a call was answered
 pub record Sighted : Type 0 where
   pub unit : ℕ
@@ -62,10 +51,6 @@ pub record Sighted : Type 0 where
   pub late : Option Late
   pub entries : List Entry
   pub answer : ℕ
-
--- the same of the code's
-abbrev pub sighted : Sight → Sighted
-sighted s = record { unit = s.unit; word = s.word; general = s.general; late = s.late; entries = s.entries.now; answer = s.answer }
 
 -- which page is granted
 abbrev pub granted_page : Option Grant → Option ℕ
@@ -79,7 +64,7 @@ or_address pc place = place
 
 -- where an address of a process with these entries stands in its source; where it stands in none, the address
 unfoldable pub at_text : Placed → List Entry → ℕ → List ℕ
-at_text x es pc = or_address pc (place_at x.places (granted_page (found es (page_address pc))) pc)
+at_text x es pc = or_address pc (place_of_address x.places (granted_page (found es (page_address pc))) pc)
 
 -- the branch in whose slot an instruction is
 unfoldable pub slot_text : Placed → List Entry → ℕ → Bool → List ℕ
@@ -106,9 +91,9 @@ abbrev pub rule_line : List ℕ → ℕ → Option ℕ
 rule_line policy number = if nat_lt 16777216 (length policy) then None else option_map (λ p. p.line) (item_place policy Rules number None)
 
 -- a line of the policy, where it is known
-abbrev pub line_text : Option ℕ → List ℕ
-line_text None = []
-line_text (Some line) = codes " (line " ++ decimal line ++ codes " of the policy)"
+abbrev pub policy_line_text : Option ℕ → List ℕ
+policy_line_text None = []
+policy_line_text (Some line) = codes " (line " ++ decimal line ++ codes " of the policy)"
 
 -- the command of a number
 unfoldable pub command_text : ℕ → List ℕ
@@ -116,11 +101,11 @@ command_text number = codes "command " ++ decimal number ++ codes " of the input
 
 -- the rule of a number, with its line in the policy
 abbrev pub rule_text : List ℕ → ℕ → List ℕ
-rule_text policy number = codes "rule " ++ decimal number ++ line_text (rule_line policy number)
+rule_text policy number = codes "rule " ++ decimal number ++ policy_line_text (rule_line policy number)
 
 -- the rule or the command of a number: those of commands are above 1,000
-unfoldable pub number_text : List ℕ → ℕ → List ℕ
-number_text policy number = if nat_lt 1000 number then command_text (number - 1000) else rule_text policy number
+unfoldable pub rule_number_text : List ℕ → ℕ → List ℕ
+rule_number_text policy number = if nat_lt 1000 number then command_text (number - 1000) else rule_text policy number
 
 -- the name of a page, if it has one
 abbrev pub name_text : Option PolicyPage → List ℕ
@@ -141,7 +126,7 @@ alone_text = codes "no rule; the process has no entry at all"
 
 -- that there is no rule, and the nearest entry
 unfoldable pub near_text : List ℕ → Entry → List ℕ
-near_text policy e = codes "no rule; the nearest entry is at " ++ (hex8 e.address ++ (codes ", by " ++ number_text policy e.grant.rule))
+near_text policy e = codes "no rule; the nearest entry is at " ++ (hex8 e.address ++ (codes ", by " ++ rule_number_text policy e.grant.rule))
 
 abbrev pub nearest_by : List ℕ → Option Entry → List ℕ
 nearest_by policy None = alone_text
@@ -153,7 +138,7 @@ nearest_text policy address es = nearest_by policy (nearest address es)
 -- which entry decided, at the page of an address
 unfoldable pub decided_text : Placed → List Entry → ℕ → Option Grant → List ℕ
 decided_text x es page None = nearest_text x.text page es
-decided_text x es page (Some g) = number_text x.text g.rule ++ page_text x.pages g.page ++ giver_text g.giver
+decided_text x es page (Some g) = rule_number_text x.text g.rule ++ page_text x.pages g.page ++ giver_text g.giver
 
 -- by what rule: the entry's own, or the processor's
 abbrev pub by_rule : Placed → List Entry → ℕ → Rule → List ℕ
@@ -167,9 +152,9 @@ unfoldable pub by_text : Placed → List Entry → Denial → Reason → List �
 by_text x es d reason = codes "    by " ++ by_rule x es (page_address d.addr) d.rule ++ codes ": " ++ reason_words reason ++ codes "\n"
 
 -- what the policy's rule of an entry's number says, if there is one
-abbrev pub said_of : List PolicyRule → Option Grant → Option PolicyRule
-said_of rules None = None
-said_of rules (Some g) = slice_get rules (g.rule - 1)
+abbrev pub policy_rule_said : List PolicyRule → Option Grant → Option PolicyRule
+policy_rule_said rules None = None
+policy_rule_said rules (Some g) = slice_get rules (g.rule - 1)
 
 -- whether a word is a branch
 abbrev pub word_branch : Option ℕ → Bool
@@ -180,7 +165,7 @@ word_branch (Some w) = is_branch (uses (instruction_of w)).shape
 abbrev pub reason_for : List PolicyRule → Denial → Sighted → Reason
 reason_for rules d s =
     let g : Option Grant = found s.entries (page_address d.addr) in
-    reason_of d.kind d.rule d.code s.answer g (said_of rules g) (word_branch s.word)
+    denial_reason_of d.kind d.rule d.code s.answer g (policy_rule_said rules g) (word_branch s.word)
 
 -- the line that says how something is mended
 unfoldable pub mend_line : List ℕ → List ℕ

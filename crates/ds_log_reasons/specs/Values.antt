@@ -39,8 +39,8 @@ abbrev pub held : List ℕ → ℕ → ℕ
 held general register = slice_index general (register % 32)
 
 -- what an operand reads: its value from before its load, if that is late
-abbrev pub reads : List ℕ → Option Late → ℕ → ℕ
-reads general late register = late_or late (register % 32) (held general register)
+abbrev pub read_before : List ℕ → Option Late → ℕ → ℕ
+read_before general late register = late_or late (register % 32) (held general register)
 
 -- the load of a register is late
 abbrev pub is_late : Option Late → ℕ → Bool
@@ -48,13 +48,13 @@ is_late None register = false
 is_late (Some l) register = l.register == register % 32
 
 -- that a value is from before a load, where it is
-abbrev pub late_text : Bool → List ℕ
-late_text late = if late then codes " (from before its load)" else []
+abbrev pub before_load_text : Bool → List ℕ
+before_load_text late = if late then codes " (from before its load)" else []
 
 -- a register with what it reads, after what comes before it
 unfoldable pub value_text : List ℕ → List ℕ → Option Late → ℕ → List ℕ
 value_text before general late register =
-    before ++ decimal register ++ codes " " ++ hex8 (reads general late register) ++ late_text (is_late late register)
+    before ++ decimal register ++ codes " " ++ hex8 (read_before general late register) ++ before_load_text (is_late late register)
 
 -- what an instruction reads of these registers, of which the load of one may be late; a call finishes that load first
 unfoldable pub values_text : List ℕ → Option Late → Operands → List ℕ

@@ -10,8 +10,8 @@ mod sentences;
 mod values;
 mod words;
 
-pub use lines::line_of;
+pub use lines::log_line_of;
 pub use places::pages_with;
-pub use reason::{Reason, reason_of};
+pub use reason::{Reason, denial_reason_of};
 pub use sentences::{Denial, Known, Sight, Texts, push_denial, push_refused};
 pub use words::{command_mend, command_words, mend_words, reason_words};

@@ -1,6 +1,6 @@
 //! What a line of the log says.
 ghost use Rattle.std.specs.Prelude.{◌≡◌, ◌≤◌};
-ghost use Rattle.ds_log_reasons.specs.Lines.{denial_of, kind_of, line_of, number, refused_of, rule_by, rule_of};
+ghost use Rattle.ds_log_reasons.specs.Lines.{denial_of, kind_of, log_line_of, number, refused_of, rule_by, log_rule_of};
 
 use ds_log::{Denied, Line};
 use ds_packets::cut_at;
@@ -52,8 +52,8 @@ fn rule_by(letter: u8, digits: &[u8]) -> Option<Rule>
 }
 
 /// What denied it, by the log's word for it.
-fn rule_of(word: &[u8]) -> Option<Rule>
-    ensures { result ≡ rule_of word.now }
+fn log_rule_of(word: &[u8]) -> Option<Rule>
+    ensures { result ≡ log_rule_of word.now }
 {
     match word {
         [letter, digits @ ..] => rule_by(*letter, digits),
@@ -72,7 +72,7 @@ fn denial_of(time: u32, process: u32, rest: &[u8]) -> Option<Line>
     let pc = number(16, pc)?;
     let kind = kind_of(kind)?;
     let addr = number(16, addr)?;
-    let rule = rule_of(rule)?;
+    let rule = log_rule_of(rule)?;
     let code = number(10, code)?;
     Some(Line::Denial {
         time: u64::from(time),
@@ -101,8 +101,8 @@ fn refused_of(time: u32, rest: &[u8]) -> Option<Line>
 }
 
 /// The line of the log that a text without its line feed says.
-pub fn line_of(text: &[u8]) -> Option<Line>
-    ensures { result ≡ line_of text.now }
+pub fn log_line_of(text: &[u8]) -> Option<Line>
+    ensures { result ≡ log_line_of text.now }
 {
     let (time, rest) = cut_at(text, b' ');
     let (second, rest) = cut_at(rest, b' ');

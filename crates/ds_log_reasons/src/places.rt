@@ -1,9 +1,9 @@
 //! The pages of a policy, with the lines of the sources whose parts they have.
 ghost use Rattle.std.specs.Prelude.{◌≡◌, IfOk, Some, bytes_eq, map, option_map, position, slice_get};
-ghost use Rattle.ds_check.specs.Starts.{assembled};
+ghost use Rattle.ds_check.specs.Inner.Starts.{assembled};
 ghost use Rattle.ds_listing.specs.Listing.{rows_of};
 ghost use Rattle.ds_listing.specs.Pages.{plain_page, plain_pages};
-ghost use Rattle.ds_listing.specs.Places.{plain_place, places_of};
+ghost use Rattle.ds_listing.specs.Places.{plain_line_place, line_places_of};
 ghost use Rattle.ds_log_reasons.specs.Places.{lines_between, lines_in, page_with, pages_with};
 
 use ds_asm::Image;
@@ -12,7 +12,7 @@ use ds_listing::{LinePlace, PageLines, line_places};
 use ds_policy::{PolicyPage, Source};
 use std::alloc::{AllocError, Global};
 
-fn place_of(sources: &[(&str, &[u8])], name: &str) -> Option<usize>
+fn place_of_name(sources: &[(&str, &[u8])], name: &str) -> Option<usize>
     ensures { result ≡ position (λ s. bytes_eq s.0.now name.now) sources.now }
 {
     sources.iter().position(|source| source.0 == name)
@@ -40,7 +40,7 @@ fn lines_between<'a>(
     text: Option<&'a [u8]>,
     image: Option<&Image>,
 ) -> Result<Option<Vec<LinePlace<'a>>>, AllocError>
-    ensures { IfOk result (λ lines. option_map (λ v. map plain_place v.items) lines
+    ensures { IfOk result (λ lines. option_map (λ v. map plain_line_place v.items) lines
         ≡ lines_between (option_map (λ t. t.now) text.entry)
         (option_map (λ i. i.now) image.entry)) }
 {
@@ -60,10 +60,10 @@ fn lines_in<'a>(
     sources: AssembledSources<'a>,
     name: &str,
 ) -> Result<Option<Vec<LinePlace<'a>>>, AllocError>
-    ensures { IfOk result (λ lines. option_map (λ v. map plain_place v.items) lines
+    ensures { IfOk result (λ lines. option_map (λ v. map plain_line_place v.items) lines
         ≡ lines_in (assembled sources.entry) name.now) }
 {
-    match place_of(sources.sources, name) {
+    match place_of_name(sources.sources, name) {
         Some(index) => lines_between(
             alloc,
             text_at(sources.sources, index),

@@ -1,7 +1,7 @@
 //! Why something was denied: the reason, by the rule and the code of a line of the log, and by the
 //! entry that was there.
 ghost use Rattle.std.specs.Prelude.{◌≡◌, ◌==◌};
-ghost use Rattle.ds_log_reasons.specs.Reasons.{access_reason, fault_reason, give_reason, grants, is_givable, is_written, number_reason, read_reason, reason_of, right_reason, taken_reason};
+ghost use Rattle.ds_log_reasons.specs.Reasons.{access_reason, fault_reason, give_reason, grants, is_givable, grants_writing, number_reason, read_reason, denial_reason_of, right_reason, taken_reason};
 
 use ds_log::Denied;
 use ds_policy::{Grant, PolicyRule, Right, Rule};
@@ -79,8 +79,8 @@ fn grants(said: Option<PolicyRule>) -> bool
 }
 
 /// Whether a rule of the policy grants writing.
-fn is_written(said: Option<PolicyRule>) -> bool
-    ensures { result ≡ is_written said }
+fn grants_writing(said: Option<PolicyRule>) -> bool
+    ensures { result ≡ grants_writing said }
 {
     match said {
         Some(rule) => match rule.right {
@@ -112,7 +112,7 @@ fn read_reason(rule: u32, giver: u32, said: Option<PolicyRule>) -> Reason
         Reason::GivenToRead
     } else if rule > 1000 {
         Reason::GrantedToRead
-    } else if is_written(said) {
+    } else if grants_writing(said) {
         Reason::Narrowed
     } else {
         Reason::ReadAlone
@@ -217,7 +217,7 @@ fn fault_reason(code: u32, branch: bool) -> Reason
 /// Why something was denied: by what was denied, the rule and the code of its line, what was answered
 /// to a give, the entry that the process had there, what the policy's rule of that entry's number
 /// says, and whether the instruction is a branch.
-pub fn reason_of(
+pub fn denial_reason_of(
     kind: Denied,
     rule: Rule,
     code: u32,
@@ -226,7 +226,7 @@ pub fn reason_of(
     said: Option<PolicyRule>,
     branch: bool,
 ) -> Reason
-    ensures { result ≡ reason_of kind rule code answer granted said branch }
+    ensures { result ≡ denial_reason_of kind rule code answer granted said branch }
 {
     match rule {
         Rule::Number(_) => number_reason(kind, answer, granted, said),

@@ -1,12 +1,13 @@
 //! What is told of a line of the log: what the process did, what decided, and how it is mended.
 ghost use Rattle.std.specs.Prelude.{◌≡◌, ◌≤◌, ◌-◌, ◌++◌, ◌==◌, not, OnOk, codes, decimal, length, map, option_map, slice_get};
 ghost use Rattle.ds_policy.specs.Pages.{found};
-ghost use Rattle.ds_listing.specs.Pages.{place_at, plain_pages};
+ghost use Rattle.ds_listing.specs.Pages.{place_of_address, plain_pages};
 ghost use Rattle.ds_listing.specs.Texts.{text_of};
-ghost use Rattle.ds_log_reasons.specs.Sentences.{alone_text, at_text, by_text, command_text, decided_text, denial_text, did_text, giver_text, granted_page, known_placed, line_text, meaning_line, mend_line, name_text, near_text, nearest_by, nearest_text, number_text, or_address, page_text, process_text, reason_for, refused_text, rule_line, rule_text, said_of, sighted, slot_text, what_text, word_branch};
+ghost use Rattle.ds_log_reasons.specs.Sentences.{alone_text, at_text, by_text, command_text, decided_text, denial_text, did_text, giver_text, granted_page, policy_line_text, meaning_line, mend_line, name_text, near_text, nearest_by, nearest_text, rule_number_text, or_address, page_text, process_text, reason_for, refused_text, rule_line, rule_text, policy_rule_said, slot_text, what_text, word_branch};
+ghost use Rattle.ds_log_reasons.specs.Inner.Sentences.{known_placed, sighted};
 
 use crate::entries::{grant_at, nearest};
-use crate::reason::{Reason, reason_of};
+use crate::reason::{Reason, denial_reason_of};
 use crate::values::{operands_for, push_values};
 use crate::words::{command_mend, command_words, mend_words, reason_words};
 use ds_check::{AssembledSources, Items, item_place};
@@ -97,7 +98,7 @@ fn push_place(
     pc: u32,
 ) -> Result<(), AllocError>
     ensures { OnOk result (sheet.new.items
-        ≡ sheet.old.items ++ or_address pc (place_at (plain_pages pages.now) page pc)) }
+        ≡ sheet.old.items ++ or_address pc (place_of_address (plain_pages pages.now) page pc)) }
 {
     let before = sheet.len();
     push_address_place(sheet, pages, page, pc)?;
@@ -227,7 +228,7 @@ fn rule_line(policy: &[u8], number: u32) -> Option<u64>
 
 /// Adds a line of the policy, where it is known.
 fn push_line(sheet: &mut Vec<u8>, line: Option<u64>) -> Result<(), AllocError>
-    ensures { OnOk result (sheet.new.items ≡ sheet.old.items ++ line_text line) }
+    ensures { OnOk result (sheet.new.items ≡ sheet.old.items ++ policy_line_text line) }
 {
     match line {
         Some(line) => {
@@ -240,9 +241,9 @@ fn push_line(sheet: &mut Vec<u8>, line: Option<u64>) -> Result<(), AllocError>
 }
 
 /// Adds the rule or the command of a number.
-#[tactic(auto, unfolding(crate::specs::Sentences::number_text))]
+#[tactic(auto, unfolding(crate::specs::Sentences::rule_number_text))]
 fn push_number(sheet: &mut Vec<u8>, policy: &[u8], number: u32) -> Result<(), AllocError>
-    ensures { OnOk result (sheet.new.items ≡ sheet.old.items ++ number_text policy.now number) }
+    ensures { OnOk result (sheet.new.items ≡ sheet.old.items ++ rule_number_text policy.now number) }
 {
     if number > 1000 {
         push_command(sheet, number - 1000)
@@ -394,8 +395,8 @@ fn push_by<'a>(
 }
 
 /// What the policy's rule of an entry's number says, if there is one.
-fn said_of(rules: &[PolicyRule], granted: Option<Grant>) -> Option<PolicyRule>
-    ensures { result ≡ said_of rules.now granted }
+fn policy_rule_said(rules: &[PolicyRule], granted: Option<Grant>) -> Option<PolicyRule>
+    ensures { result ≡ policy_rule_said rules.now granted }
 {
     match granted {
         Some(grant) => rules.get(grant.rule.saturating_sub(1) as usize).copied(),
@@ -418,13 +419,13 @@ fn reason_for<'a>(rules: &[PolicyRule], denial: Denial, sight: Sight<'a>) -> Rea
     ensures { result ≡ reason_for rules.now denial (sighted sight.entry) }
 {
     let granted = grant_at(sight.entries, denial.addr - denial.addr % 4096);
-    reason_of(
+    denial_reason_of(
         denial.kind,
         denial.rule,
         denial.code,
         sight.answer,
         granted,
-        said_of(rules, granted),
+        policy_rule_said(rules, granted),
         word_branch(sight.word),
     )
 }

@@ -1,6 +1,6 @@
 //! The values of the registers that an instruction reads, as far as they tell why it was denied.
 ghost use Rattle.std.specs.Prelude.{◌≡◌, ◌++◌, ◌%◌, ◌==◌, OnOk, None, slice_index};
-ghost use Rattle.ds_log_reasons.specs.Values.{held, is_late, late_text, operands_for, operands_of, reads, value_text, values_text};
+ghost use Rattle.ds_log_reasons.specs.Values.{held, is_late, before_load_text, operands_for, operands_of, read_before, value_text, values_text};
 
 use ds_isa::{Instr, Late};
 use ds_log::Denied;
@@ -74,8 +74,8 @@ fn held(general: &[u32; 32], register: u8) -> u32
 }
 
 /// What an operand reads: its value from before its load, if that is late.
-fn reads(general: &[u32; 32], late: Option<Late>, register: u8) -> u32
-    ensures { result ≡ reads general.now late register }
+fn read_before(general: &[u32; 32], late: Option<Late>, register: u8) -> u32
+    ensures { result ≡ read_before general.now late register }
 {
     match late {
         Some(late) if late.register == register % 32 => late.old,
@@ -95,7 +95,7 @@ fn is_late(late: Option<Late>, register: u8) -> bool
 
 /// Adds that a value is from before a load, where it is.
 fn push_late(sheet: &mut Vec<u8>, late: bool) -> Result<(), AllocError>
-    ensures { OnOk result (sheet.new.items ≡ sheet.old.items ++ late_text late) }
+    ensures { OnOk result (sheet.new.items ≡ sheet.old.items ++ before_load_text late) }
 {
     if late {
         sheet.extend_from_slice(b" (from before its load)")
@@ -119,7 +119,7 @@ fn push_value(
     sheet.extend_from_slice(before)?;
     push_decimal(sheet, u64::from(register))?;
     sheet.extend_from_slice(b" ")?;
-    push_hex(sheet, reads(general, late, register))?;
+    push_hex(sheet, read_before(general, late, register))?;
     push_late(sheet, is_late(late, register))
 }
 

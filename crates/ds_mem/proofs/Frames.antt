@@ -60,8 +60,8 @@ part_before xs rest s at n below within =
     ∙ drop-take s n xs
 
 -- the parts of a list after what was replaced
-pub part_behind : (xs front : List ℕ) (s end n : ℕ) → length front ≡ end → end ≤ s → take n (drop s (front ++ drop end xs)) ≡ take n (drop s xs)
-part_behind xs front s end n size above =
+pub part_after : (xs front : List ℕ) (s end n : ℕ) → length front ≡ end → end ≤ s → take n (drop s (front ++ drop end xs)) ≡ take n (drop s xs)
+part_after xs front s end n size above =
     let e : end + (s - end) ≡ s = omega arith in
     ap (take n)
     (ap (λ k. drop k (front ++ drop end xs)) (sym e)
@@ -79,7 +79,7 @@ frame_of-with_frame_apart memory bytes f g size within (inr above) =
     let front : length (take (f * 4096) memory ++ bytes) ≡ f * 4096 + 4096 =
     omega (arith, length-append (take (f * 4096) memory) bytes, length-take-le (f * 4096) memory (omega arith)) in
     ap (λ m. frame_of m g) (overwritten-within memory bytes (f * 4096) 4096 (sym size) within ∙ sym (append_assoc (take (f * 4096) memory) bytes (drop (f * 4096 + 4096) memory)))
-    ∙ part_behind memory (take (f * 4096) memory ++ bytes) (g * 4096) (f * 4096 + 4096) 4096 front above
+    ∙ part_after memory (take (f * 4096) memory ++ bytes) (g * 4096) (f * 4096 + 4096) 4096 front above
 
 -- a byte of a frame is a byte of memory
 pub slice_index-frame_of : (memory : List ℕ) (f at : ℕ) → at < 4096 → slice_index (frame_of memory f) at ≡ slice_index memory (f * 4096 + at)

@@ -6,7 +6,7 @@ use Rattle.std.specs.Prelude.{slice_index, slice_set}
 use Rattle.ds_word.specs.Word.{bits}
 use Rattle.ds_word.specs.Merge.{with_bits}
 use Rattle.ds_word.specs.Bytes.{bytes_of_word, word_at, with_word}
-use Rattle.ds_mem.specs.Memory.{AreBytes}
+use Rattle.ds_mem.specs.Inner.Memory.{AreBytes}
 
 -- the word of four bytes
 abbrev of_bytes : ℕ → ℕ → ℕ → ℕ → ℕ
@@ -55,8 +55,8 @@ stays : (xs : List ℕ) (i v : ℕ) → v ≡ slice_index xs i → set xs i v �
 stays xs i v is = ap (set xs i) is ∙ set-get_or xs i 0
 
 -- the same behind another byte that was put
-stays_behind : (xs : List ℕ) (j i u v : ℕ) → i ≢ j → v ≡ slice_index xs i → set (set xs j u) i v ≡ set xs j u
-stays_behind xs j i u v other is = stays (set xs j u) i v (is ∙ sym (get_or-set_other xs j i u 0 other))
+stays_after : (xs : List ℕ) (j i u v : ℕ) → i ≢ j → v ≡ slice_index xs i → set (set xs j u) i v ≡ set xs j u
+stays_after xs j i u v other is = stays (set xs j u) i v (is ∙ sym (get_or-set_other xs j i u 0 other))
 
 later : (p i j : ℕ) → i < j → p + j ≢ p + i
 later p i j below = λ (e : ◌≡◌ {A = ℕ} (p + j) (p + i)). omega (arith, e, below)
@@ -65,17 +65,17 @@ later p i j below = λ (e : ◌≡◌ {A = ℕ} (p + j) (p + i)). omega (arith, 
 first : (xs : List ℕ) (p a b c d : ℕ) → b ≡ slice_index xs (p + 1) → c ≡ slice_index xs (p + 2) → d ≡ slice_index xs (p + 3)
     → set (set (set (set xs p a) (p + 1) b) (p + 2) c) (p + 3) d ≡ set xs p a
 first xs p a b c d g h i =
-    let e1 = stays_behind xs p (p + 1) a b (λ (e : ◌≡◌ {A = ℕ} (p + 1) p). omega (arith, e)) g in
-    let e2 = stays_behind xs p (p + 2) a c (λ (e : ◌≡◌ {A = ℕ} (p + 2) p). omega (arith, e)) h in
-    let e3 = stays_behind xs p (p + 3) a d (λ (e : ◌≡◌ {A = ℕ} (p + 3) p). omega (arith, e)) i in
+    let e1 = stays_after xs p (p + 1) a b (λ (e : ◌≡◌ {A = ℕ} (p + 1) p). omega (arith, e)) g in
+    let e2 = stays_after xs p (p + 2) a c (λ (e : ◌≡◌ {A = ℕ} (p + 2) p). omega (arith, e)) h in
+    let e3 = stays_after xs p (p + 3) a d (λ (e : ◌≡◌ {A = ℕ} (p + 3) p). omega (arith, e)) i in
     ap (λ (l : List ℕ). set (set l (p + 2) c) (p + 3) d) e1 ∙ (ap (λ (l : List ℕ). set l (p + 3) d) e2 ∙ e3)
 
 second : (xs : List ℕ) (p a b c d : ℕ) → a ≡ slice_index xs p → c ≡ slice_index xs (p + 2) → d ≡ slice_index xs (p + 3)
     → set (set (set (set xs p a) (p + 1) b) (p + 2) c) (p + 3) d ≡ set xs (p + 1) b
 second xs p a b c d g h i =
     let e1 = stays xs p a g in
-    let e2 = stays_behind xs (p + 1) (p + 2) b c (later p 1 2 (omega arith)) h in
-    let e3 = stays_behind xs (p + 1) (p + 3) b d (later p 1 3 (omega arith)) i in
+    let e2 = stays_after xs (p + 1) (p + 2) b c (later p 1 2 (omega arith)) h in
+    let e3 = stays_after xs (p + 1) (p + 3) b d (later p 1 3 (omega arith)) i in
     ap (λ (l : List ℕ). set (set (set l (p + 1) b) (p + 2) c) (p + 3) d) e1 ∙ (ap (λ (l : List ℕ). set l (p + 3) d) e2 ∙ e3)
 
 third : (xs : List ℕ) (p a b c d : ℕ) → a ≡ slice_index xs p → b ≡ slice_index xs (p + 1) → d ≡ slice_index xs (p + 3)
@@ -83,7 +83,7 @@ third : (xs : List ℕ) (p a b c d : ℕ) → a ≡ slice_index xs p → b ≡ s
 third xs p a b c d g h i =
     let e1 = stays xs p a g in
     let e2 = stays xs (p + 1) b h in
-    let e3 = stays_behind xs (p + 2) (p + 3) c d (later p 2 3 (omega arith)) i in
+    let e3 = stays_after xs (p + 2) (p + 3) c d (later p 2 3 (omega arith)) i in
     ap (λ (l : List ℕ). set (set (set l (p + 1) b) (p + 2) c) (p + 3) d) e1 ∙ (ap (λ (l : List ℕ). set (set l (p + 2) c) (p + 3) d) e2 ∙ e3)
 
 fourth : (xs : List ℕ) (p a b c d : ℕ) → a ≡ slice_index xs p → b ≡ slice_index xs (p + 1) → c ≡ slice_index xs (p + 2)
@@ -98,8 +98,8 @@ fourth xs p a b c d g h i =
 lower : (xs : List ℕ) (p a b c d : ℕ) → c ≡ slice_index xs (p + 2) → d ≡ slice_index xs (p + 3)
     → set (set (set (set xs p a) (p + 1) b) (p + 2) c) (p + 3) d ≡ set (set xs p a) (p + 1) b
 lower xs p a b c d g h =
-    let e1 = stays_behind (set xs p a) (p + 1) (p + 2) b c (later p 1 2 (omega arith)) (g ∙ sym (get_or-set_other xs p (p + 2) a 0 (λ (e : ◌≡◌ {A = ℕ} (p + 2) p). omega (arith, e)))) in
-    let e2 = stays_behind (set xs p a) (p + 1) (p + 3) b d (later p 1 3 (omega arith)) (h ∙ sym (get_or-set_other xs p (p + 3) a 0 (λ (e : ◌≡◌ {A = ℕ} (p + 3) p). omega (arith, e)))) in
+    let e1 = stays_after (set xs p a) (p + 1) (p + 2) b c (later p 1 2 (omega arith)) (g ∙ sym (get_or-set_other xs p (p + 2) a 0 (λ (e : ◌≡◌ {A = ℕ} (p + 2) p). omega (arith, e)))) in
+    let e2 = stays_after (set xs p a) (p + 1) (p + 3) b d (later p 1 3 (omega arith)) (h ∙ sym (get_or-set_other xs p (p + 3) a 0 (λ (e : ◌≡◌ {A = ℕ} (p + 3) p). omega (arith, e)))) in
     ap (λ (l : List ℕ). set l (p + 3) d) e1 ∙ e2
 
 upper : (xs : List ℕ) (p a b c d : ℕ) → a ≡ slice_index xs p → b ≡ slice_index xs (p + 1)

@@ -5,7 +5,7 @@ use Rattle.std.specs.Prelude.{slice_index}
 use Rattle.ds_word.specs.Bytes.{bytes_of_word, word_at, with_word}
 use Rattle.ds_word.proofs.Bytes.{same_bytes, word_at-zeros}
 use Rattle.ds_mem.specs.Memory.{zeros, frame_of, with_frame}
-use Rattle.ds_mem.proofs.Frames.{overwritten-within, part_before, part_behind, slice_index-frame_of}
+use Rattle.ds_mem.proofs.Frames.{overwritten-within, part_before, part_after, slice_index-frame_of}
 
 -- a word of memory is that of its frame
 pub word_at-frame_of : (memory : List ℕ) (f at : ℕ) → at < 4096 → word_at memory (f * 4096 + at) ≡ word_at (frame_of memory f) at
@@ -37,7 +37,7 @@ frame_of-with_word_apart memory place w g within (inr above) =
     let front : length (take (place - place % 4) memory ++ bytes_of_word w) ≡ place - place % 4 + 4 =
     omega (arith, length-append (take (place - place % 4) memory) (bytes_of_word w), length-take-le (place - place % 4) memory (omega arith)) in
     ap (λ m. frame_of m g) (sym (append_assoc (take (place - place % 4) memory) (bytes_of_word w) (drop (place - place % 4 + 4) memory)))
-    ∙ part_behind memory (take (place - place % 4) memory ++ bytes_of_word w) (g * 4096) (place - place % 4 + 4) 4096 front (omega arith)
+    ∙ part_after memory (take (place - place % 4) memory ++ bytes_of_word w) (g * 4096) (place - place % 4 + 4) 4096 front (omega arith)
 
 -- Lengths.
 

@@ -1,2 +1,2 @@
 pub mod Memory
-pub mod Lending
+pub mod Inner

@@ -1,5 +1,5 @@
 -- Memory as one list of bytes, seen by frames of 4,096 bytes; its words are those of `ds_word`.
-use Rattle.std.specs.Prelude.{ℕ, ◌+◌, ◌*◌, ◌^◌, ◌<◌, List, ◌++◌, length, take, drop, replicate, slice_index}
+use Rattle.std.specs.Prelude.{ℕ, ◌+◌, ◌*◌, List, ◌++◌, length, take, drop, replicate}
 
 -- so many zeros
 unfoldable pub zeros : ℕ → List ℕ
@@ -16,7 +16,3 @@ overwritten memory place bytes = take (length memory) (take place memory ++ (byt
 -- memory with the bytes of a frame replaced
 abbrev pub with_frame : List ℕ → ℕ → List ℕ → List ℕ
 with_frame memory f bytes = overwritten memory (f * 4096) bytes
-
--- each number is a byte
-abbrev pub AreBytes : List ℕ → Type 0
-AreBytes bytes = (i : ℕ) → slice_index bytes i < 2 ^ 8

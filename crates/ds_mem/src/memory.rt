@@ -5,8 +5,9 @@ ghost use Rattle.std.specs.Borrow.{sem};
 ghost use Rattle.ds_word.specs.Word.{bits};
 ghost use Rattle.ds_word.specs.Merge.{with_bits};
 ghost use Rattle.ds_word.specs.Bytes.{word_at, with_word};
-ghost use Rattle.ds_mem.specs.Memory.{AreBytes, zeros, frame_of, with_frame};
-ghost use Rattle.ds_mem.specs.Lending.{LendsFrame};
+ghost use Rattle.ds_mem.specs.Memory.{zeros, frame_of, with_frame};
+ghost use Rattle.ds_mem.specs.Inner.Memory.{AreBytes};
+ghost use Rattle.ds_mem.specs.Inner.Lending.{LendsFrame};
 
 use crate::fault::OutOfMemory;
 use byteorder::{ByteOrder, LittleEndian};

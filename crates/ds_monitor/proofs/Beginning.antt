@@ -11,20 +11,21 @@ use Rattle.ds_policy.specs.InputFacts.{AreGoodCommands}
 use Rattle.ds_policy.specs.declared.policy.PolicyProcess.{PolicyProcess}
 use Rattle.ds_policy.specs.Pages.{Pages}
 use Rattle.ds_policy.specs.Ends.{NoneEndsBefore}
-use Rattle.ds_procs.specs.Queue.{without}
+use Rattle.ds_procs.specs.Inner.Queue.{without}
 use Rattle.ds_grants.specs.State.{GrantsState, pages_in}
 use Rattle.ds_grants.specs.First.{first_grants}
 use Rattle.ds_tables.specs.Places.{Places}
-use Rattle.ds_asid.specs.Spaces.{Spaces, at_start, taken}
+use Rattle.ds_asid.specs.Spaces.{Spaces, at_start, space_taken}
 use Rattle.ds_pagemap.specs.First.{numbers, first_pages, first_process, first_state}
 use Rattle.ds_pagemap.specs.Machine.{Process, has_ended}
 use Rattle.ds_pagemap_laws.specs.Settled.{settled_process}
 use Rattle.ds_pagemap_laws.specs.Lawful.{IsLawful}
 use Rattle.ds_pagemap_laws.proofs.FirstStates.{first_lawful}
-use Rattle.ds_refinement.specs.Held.{Kept, no_memory, whole}
-use Rattle.ds_refinement.specs.Stands.{IsKept}
+use Rattle.ds_refinement.specs.Held.{Kept, no_memory}
+use Rattle.ds_refinement.specs.Inner.Held.{whole}
+use Rattle.ds_refinement.specs.Inner.Stands.{IsKept}
 use Rattle.ds_refinement.specs.First.{first_kept}
-use Rattle.ds_monitor.specs.Orderly.{IsOrderly}
+use Rattle.ds_monitor.specs.Inner.Orderly.{IsOrderly}
 
 -- who comes later isn't among the numbers
 pub without_later : (n k p : ℕ) → k + n ≤ p → without (numbers n k) p ≡ numbers n k
@@ -84,11 +85,11 @@ beginning processes ready queues consoles log rate commands characters grants ta
 
 pub begins : (policy : PolicyValue) (images : List (List ℕ)) (input : InputValue) (processes : List Process) (ready : List ℕ) (queues consoles : List (List ℕ)) (log : List ℕ) (rate : ℕ) (commands : List TimedCommand) (characters : List Character) (grants : GrantsState) (tables : Places) (spaces : Spaces) (ends : ℕ)
     → processes ≡ map first_process policy.processes → ready ≡ numbers (length policy.processes) 1 → queues ≡ replicate 4 [] → consoles ≡ [] ∷ [] ∷ [] ∷ [] ∷ []
-    → log ≡ [] → rate ≡ policy.rate → commands ≡ input.commands → characters ≡ input.characters → grants ≡ first_grants policy → spaces ≡ taken at_start 1 → beginning processes ready queues consoles log rate commands characters grants tables spaces ends ≡ first_kept policy images input tables ends
+    → log ≡ [] → rate ≡ policy.rate → commands ≡ input.commands → characters ≡ input.characters → grants ≡ first_grants policy → spaces ≡ space_taken at_start 1 → beginning processes ready queues consoles log rate commands characters grants tables spaces ends ≡ first_kept policy images input tables ends
 begins policy images input processes ready queues consoles log rate commands characters grants tables spaces ends a b c d e f i h g j =
-    let seats : Kept = beginning (map first_process policy.processes) (numbers (length policy.processes) 1) (replicate 4 []) (replicate 4 []) [] policy.rate input.commands input.characters (first_grants policy) tables (taken at_start 1) ends in
+    let seats : Kept = beginning (map first_process policy.processes) (numbers (length policy.processes) 1) (replicate 4 []) (replicate 4 []) [] policy.rate input.commands input.characters (first_grants policy) tables (space_taken at_start 1) ends in
     let all : beginning processes ready queues consoles log rate commands characters grants tables spaces ends ≡ seats = rw (a, b, c, d, e, f, i, h, g, j) refl in
-    all ∙ ap (λ (ps : List Process). beginning ps (numbers (length policy.processes) 1) (replicate 4 []) (replicate 4 []) [] policy.rate input.commands input.characters (first_grants policy) tables (taken at_start 1) ends) (sym (settled_first policy.processes))
+    all ∙ ap (λ (ps : List Process). beginning ps (numbers (length policy.processes) 1) (replicate 4 []) (replicate 4 []) [] policy.rate input.commands input.characters (first_grants policy) tables (space_taken at_start 1) ends) (sym (settled_first policy.processes))
 
 -- nobody is on the processor, and all is kept of the first state
 pub first_is_kept : (policy : PolicyValue) (images : List (List ℕ)) (input : InputValue) (tables : Places) (ends : ℕ) (memory : List ℕ) → pages_in (first_grants policy) memory ≡ first_pages policy images → IsKept (first_kept policy images input tables ends) memory (first_state policy images input)

@@ -12,9 +12,9 @@ use Rattle.ds_pagemap.specs.Calls.{answered, queue_of, after_get, after_wait, or
 use Rattle.ds_pagemap.specs.Unit.{at_pc}
 use Rattle.ds_refinement.specs.Held.{Kept}
 use Rattle.ds_refinement.specs.Units.{ends_in_call, owes_boundary}
-use Rattle.ds_refinement.specs.Services.{IsBare, Serves}
-use Rattle.ds_monitor.specs.Blind.{IsBlind}
-use Rattle.ds_monitor.specs.Kept.{kept_after}
+use Rattle.ds_refinement.specs.Inner.Services.{IsBare, Serves}
+use Rattle.ds_monitor.specs.Inner.Blind.{IsBlind}
+use Rattle.ds_monitor.specs.Inner.Kept.{kept_after}
 use Rattle.ds_monitor.proofs.Serving.{blind_serves}
 use Rattle.ds_monitor.proofs.Stops.{settle_same}
 
@@ -95,11 +95,11 @@ called p pc c m = with_end p (served (at_pc m p (word (pc + 4))) p pc c)
 
 pub call_ends : (p pc : ℕ) (c : Call) (m : State) → (process_of m p).registers.late ≡ None → c ≡ call_of (process_of (at_pc m p (word (pc + 4))) p).registers.general → ends_in_call p pc m ≡ called p pc c m
 call_ends p pc c m none is =
-    let behind = at_pc m p (word (pc + 4)) in
-    let asked = call_of (process_of behind p).registers.general in
-    let settled : ends_in_call p pc m ≡ owes_boundary m.time p (record (served behind p pc asked) { time = (served behind p pc asked).time + 1 })
+    let afterwards = at_pc m p (word (pc + 4)) in
+    let asked = call_of (process_of afterwards p).registers.general in
+    let settled : ends_in_call p pc m ≡ owes_boundary m.time p (record (served afterwards p pc asked) { time = (served afterwards p pc asked).time + 1 })
     = ap (λ (s : State). let t = at_pc s p (word (pc + 4)) in
     owes_boundary m.time p (record (served t p pc (call_of (process_of t p).registers.general)) { time = (served t p pc (call_of (process_of t p).registers.general)).time + 1 })) (settle_same m p none) in
     settled
-    ∙ (ap (λ (x : Call). owes_boundary m.time p (record (served behind p pc x) { time = (served behind p pc x).time + 1 })) (sym is)
-    ∙ ap (λ (t : ℕ). record (served behind p pc c) { time = (served behind p pc c).time + 1; owed = Some (record { began = t; runner = Some p }) }) (sym (served_time behind p pc c)))
+    ∙ (ap (λ (x : Call). owes_boundary m.time p (record (served afterwards p pc x) { time = (served afterwards p pc x).time + 1 })) (sym is)
+    ∙ ap (λ (t : ℕ). record (served afterwards p pc c) { time = (served afterwards p pc c).time + 1; owed = Some (record { began = t; runner = Some p }) }) (sym (served_time afterwards p pc c)))

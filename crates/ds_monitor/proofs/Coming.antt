@@ -7,7 +7,7 @@ use Rattle.std.proofs.lemmas.Bool.Decides.{nat_tests}
 use Rattle.std.proofs.lemmas.List.{drop_more}
 use Rattle.std.proofs.lemmas.List.Elements.{All-head, All-tail}
 use Rattle.std.proofs.lemmas.List.Sorted.{IsNonDecreasingBy-drop}
-use Rattle.ds_monitor.specs.Coming.{first_time}
+use Rattle.ds_monitor.specs.Inner.Coming.{first_time}
 
 pub later_so : (t now : ℕ) → now < t → nat_le t now ≡ false
 later_so t now l = grind (arith, nat_tests)

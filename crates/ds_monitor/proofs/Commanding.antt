@@ -14,17 +14,19 @@ use Rattle.ds_log.specs.declared.line.Line.{Line}
 use Rattle.ds_log.specs.declared.line.Line.TheVariants.{Refused}
 use Rattle.ds_log.specs.Text.{line_text}
 use Rattle.ds_grants.specs.declared.fault.GrantFault.{GrantFault}
-use Rattle.ds_grants.specs.State.{GrantsState, Does, page_state, number_of}
+use Rattle.ds_grants.specs.State.{GrantsState, page_state}
+use Rattle.ds_grants.specs.Inner.State.{DoesCall, grant_fault_number}
 use Rattle.ds_tables.specs.Places.{Places}
 use Rattle.ds_asid.specs.Spaces.{Spaces}
 use Rattle.ds_pagemap.specs.Machine.{State, process_of, lives, is_parked, made_ready}
 use Rattle.ds_pagemap.specs.Calls.{ended, refuse_command, or_logged, after_command}
 use Rattle.ds_pagemap.specs.Boundary.{after_commands}
-use Rattle.ds_refinement.specs.Held.{Kept, whole}
-use Rattle.ds_refinement.specs.Services.{IsBare, Serves}
-use Rattle.ds_monitor.specs.Commands.{commanded, commands_by, with_refusal, Obeys}
-use Rattle.ds_monitor.specs.Coming.{first_time}
-use Rattle.ds_monitor.specs.Room.{HasLogRoom}
+use Rattle.ds_refinement.specs.Held.{Kept}
+use Rattle.ds_refinement.specs.Inner.Held.{whole}
+use Rattle.ds_refinement.specs.Inner.Services.{IsBare, Serves}
+use Rattle.ds_monitor.specs.Inner.Commands.{commanded, commands_by, with_refusal, Obeys}
+use Rattle.ds_monitor.specs.Inner.Coming.{first_time}
+use Rattle.ds_monitor.specs.Inner.Room.{HasLogRoom}
 use Rattle.ds_monitor.specs.declared.monitor.Monitor.{Monitor}
 use Rattle.ds_monitor.proofs.Coming.{none_come, all_stay, later_so}
 use Rattle.ds_monitor.proofs.Serving.{serves_then}
@@ -34,7 +36,7 @@ use Rattle.ds_monitor.proofs.Serving.{serves_then}
 -- a change of what is granted is what the command does, or it is refused as the command is
 pub grants_obey : {R : Type 0} (Z : Type 0) (n : ℕ) (c : Command) (k : Kept) (g : GrantsState) (t : Places) (s : Spaces) (x y : List ℕ) (r : Result R GrantFault) (meant : Result PageState ℕ)
     → ((log : List Line) → after_command (whole k x log) n c ≡ or_logged (whole k x log) n meant) → IsBare k.state
-    → Does (page_state k.grants x) (page_state g y) r meant → OnErr r ((g ≡ k.grants) × (y ≡ x) × (t ≡ k.tables) × Z) → s ≡ k.spaces → Obeys n c k x (record k { grants = g; tables = t; spaces = s }) y r
+    → DoesCall (page_state k.grants x) (page_state g y) r meant → OnErr r ((g ≡ k.grants) × (y ≡ x) × (t ≡ k.tables) × Z) → s ≡ k.spaces → Obeys n c k x (record k { grants = g; tables = t; spaces = s }) y r
 grants_obey Z n c k g t s x y (Ok done) meant is b does kept same = record {
   lines = [];
   state = λ log. is log ∙ (ap (or_logged (whole k x log) n) does ∙ ap (λ (l : List Line). whole (record k { grants = g; tables = t; spaces = s }) y l) (sym (append-nil log)));
@@ -50,10 +52,10 @@ grants_obey Z n c k g t s x y (Err fault) meant is b does kept same = (
 
 -- what is refused is told in the log
 pub refusal_serves : (n : ℕ) (c : Command) (fault : GrantFault) (k : Kept) (x : List ℕ) → IsBare k.state
-    → ((log : List Line) → after_command (whole k x log) n c ≡ refuse_command (whole k x log) n (number_of fault))
+    → ((log : List Line) → after_command (whole k x log) n c ≡ refuse_command (whole k x log) n (grant_fault_number fault))
     → Serves (λ (m : State). after_command m n c) k x (with_refusal n fault k) x
 refusal_serves n c fault k x b is =
-    let line = Refused k.state.time n (number_of fault) in
+    let line = Refused k.state.time n (grant_fault_number fault) in
     record {
       lines = line ∷ [];
       state = is;

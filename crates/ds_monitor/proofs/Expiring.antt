@@ -7,9 +7,10 @@ use Rattle.ds_log.specs.declared.line.Line.{Line}
 use Rattle.ds_grants.specs.State.{GrantsState, page_state}
 use Rattle.ds_tables.specs.Places.{Places}
 use Rattle.ds_pagemap.proofs.Ends.{expired_same}
-use Rattle.ds_refinement.specs.Held.{Kept, whole}
-use Rattle.ds_refinement.specs.Services.{IsBare, Serves}
-use Rattle.ds_monitor.specs.Commands.{with_ends}
+use Rattle.ds_refinement.specs.Held.{Kept}
+use Rattle.ds_refinement.specs.Inner.Held.{whole}
+use Rattle.ds_refinement.specs.Inner.Services.{IsBare, Serves}
+use Rattle.ds_monitor.specs.Inner.Commands.{with_ends}
 
 -- where what is granted is what is left of it, rights have ended
 pub ends_serve : (now : ℕ) (k : Kept) (g : GrantsState) (t : Places) (ends : ℕ) (x y : List ℕ) → IsBare k.state → page_state g y ≡ expired (page_state k.grants x) now

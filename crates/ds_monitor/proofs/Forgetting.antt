@@ -4,7 +4,7 @@ use Rattle.std.specs.Prelude.{OnOk, OnErr}
 use Rattle.ds_tlb.specs.declared.entry.Entry.{Entry}
 use Rattle.ds_policy.specs.declared.grant.EntryPlace.{EntryPlace}
 use Rattle.ds_asid.specs.Spaces.{Spaces}
-use Rattle.ds_grants.specs.Changes.{both_forgotten, all_forgotten}
+use Rattle.ds_grants.specs.Inner.Changes.{both_forgotten, all_forgotten}
 use Rattle.ds_grants.specs.Copies.{AreRewritten}
 use Rattle.ds_refinement.specs.Pairs.{HasNoNewPairs}
 use Rattle.ds_refinement.proofs.NoNewPairs.{same_pairs, forgotten_pairs, all_forgotten_pairs, joined_pairs, rewritten_pairs}

@@ -3,7 +3,7 @@ use Rattle.std.proofs.Common.{◌≡◌, ℕ, zero, suc, ◌^◌, ◌-◌, List,
 use Rattle.std.specs.Prelude.{None, Some, slice_get, slice_index_or, slice_set}
 use Rattle.ds_pagemap.specs.Machine.{State, process_of}
 use Rattle.ds_pagemap.specs.Calls.{answered, after_get}
-use Rattle.ds_monitor.specs.Taking.{got}
+use Rattle.ds_monitor.specs.Inner.Taking.{got}
 
 pub set_same : (queues : List (List ℕ)) (l : ℕ) → slice_index_or queues l [] ≡ [] → slice_set queues l [] ≡ queues
 set_same [] l e = refl

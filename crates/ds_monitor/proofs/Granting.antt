@@ -10,17 +10,19 @@ use Rattle.ds_log.specs.declared.line.Line.TheVariants.{Denial}
 use Rattle.ds_log.specs.declared.line.Denied.TheVariants.{Give}
 use Rattle.ds_log.specs.Text.{line_text}
 use Rattle.ds_grants.specs.declared.fault.GrantFault.{GrantFault}
-use Rattle.ds_grants.specs.State.{GrantsState, Does, number_of, lives_in, page_state}
+use Rattle.ds_grants.specs.State.{GrantsState, page_state}
+use Rattle.ds_grants.specs.Inner.State.{DoesCall, grant_fault_number, lives_in}
 use Rattle.ds_tables.specs.Places.{Places}
 use Rattle.ds_asid.specs.Spaces.{Spaces}
 use Rattle.ds_pagemap.specs.Machine.{State, lives}
-use Rattle.ds_pagemap.specs.Calls.{with_pages, answered, or_number, rule_of, or_denied}
-use Rattle.ds_refinement.specs.Held.{Kept, whole}
-use Rattle.ds_refinement.specs.Services.{IsBare, Serves}
+use Rattle.ds_pagemap.specs.Calls.{with_pages, answered, or_number, rule_number_of, or_denied}
+use Rattle.ds_refinement.specs.Held.{Kept}
+use Rattle.ds_refinement.specs.Inner.Held.{whole}
+use Rattle.ds_refinement.specs.Inner.Services.{IsBare, Serves}
 use Rattle.ds_monitor.specs.declared.monitor.Monitor.{Monitor}
-use Rattle.ds_monitor.specs.Room.{HasLogRoom}
-use Rattle.ds_monitor.specs.Kept.{kept_after}
-use Rattle.ds_monitor.specs.Ended.{marks_of}
+use Rattle.ds_monitor.specs.Inner.Room.{HasLogRoom}
+use Rattle.ds_monitor.specs.Inner.Kept.{kept_after}
+use Rattle.ds_monitor.specs.Inner.Ended.{marks_of}
 use Rattle.ds_monitor.proofs.Living.{lives_as, give_as, take_as}
 
 -- fewer lines need no more room
@@ -66,18 +68,18 @@ takes k x log p holder address marks = take_as (lives (whole k x log)) (lives_in
 
 -- What is answered.
 
-number_is : {R : Type 0} (m : State) (p value : ℕ) (new : PageState) (r : Result R GrantFault) (meant : Result PageState ℕ) → Does m.memory new r meant
-    → OnOk r (value ≡ 0) → IfErr r (λ fault. value ≡ number_of fault) → or_number m p meant ≡ answered (with_pages m new) p value
+number_is : {R : Type 0} (m : State) (p value : ℕ) (new : PageState) (r : Result R GrantFault) (meant : Result PageState ℕ) → DoesCall m.memory new r meant
+    → OnOk r (value ≡ 0) → IfErr r (λ fault. value ≡ grant_fault_number fault) → or_number m p meant ≡ answered (with_pages m new) p value
 number_is m p value new (Ok x) meant is done refused = ap (or_number m p) is ∙ ap (answered (with_pages m new) p) (sym done)
 number_is m p value new (Err fault) meant is done refused =
     ap (or_number m p) is.0
-    ∙ (ap (λ (pages : PageState). answered (with_pages m pages) p (number_of fault)) (sym is.1)
+    ∙ (ap (λ (pages : PageState). answered (with_pages m pages) p (grant_fault_number fault)) (sym is.1)
     ∙ ap (answered (with_pages m new) p) (sym refused))
 
 -- a call that is answered 0 or the number of its refusal
 pub number_serves : {R : Type 0} (f : State → Result PageState ℕ) (k : Kept) (x y : List ℕ) (g : GrantsState) (t : Places) (s : Spaces) (p value : ℕ) (r : Result R GrantFault) (meant : Result PageState ℕ) → IsBare k.state
-    → ((log : List Line) → f (whole k x log) ≡ meant) → Does (page_state k.grants x) (page_state g y) r meant
-    → OnOk r (value ≡ 0) → IfErr r (λ fault. value ≡ number_of fault)
+    → ((log : List Line) → f (whole k x log) ≡ meant) → DoesCall (page_state k.grants x) (page_state g y) r meant
+    → OnOk r (value ≡ 0) → IfErr r (λ fault. value ≡ grant_fault_number fault)
     → Serves (λ (m : State). or_number m p (f m)) k x (with_answer k g t s p value) y
 number_serves f k x y g t s p value r meant b asks does done refused =
     answered_serves (λ (m : State). or_number m p (f m)) k x y g t s p value b
@@ -88,14 +90,14 @@ number_serves f k x y g t s p value r meant b asks does done refused =
 -- what is kept once a give is refused by a number
 abbrev pub denied : Kept → ℕ → ℕ → ℕ → ℕ → Kept
 denied k p pc address number =
-    let line = Denial k.state.time p pc Give address (Number (rule_of (entry_at k.grants.table p (page_address address)))) 8 in
+    let line = Denial k.state.time p pc Give address (Number (rule_number_of (entry_at k.grants.table p (page_address address)))) 8 in
     record (kept_after (λ (m : State). answered m p number) k) { log = k.log ++ line_text line; lines = k.lines + 1 }
 
 -- the process is answered the number, and the log tells it
 pub denied_serves : (k : Kept) (p pc address number : ℕ) (memory : List ℕ) → IsBare k.state
     → Serves (λ (m : State). or_denied m p pc address (Err number)) k memory (denied k p pc address number) memory
 denied_serves k p pc address number memory b =
-    let line = Denial k.state.time p pc Give address (Number (rule_of (entry_at k.grants.table p (page_address address)))) 8 in
+    let line = Denial k.state.time p pc Give address (Number (rule_number_of (entry_at k.grants.table p (page_address address)))) 8 in
     record {
       lines = line ∷ [];
       state = λ log. refl;

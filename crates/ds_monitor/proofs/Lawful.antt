@@ -30,12 +30,13 @@ use Rattle.ds_pagemap_laws.proofs.Asleep.{put_asleep}
 use Rattle.ds_pagemap_laws.proofs.LawfulUnits.{parked_lawful, after_call_lawful}
 use Rattle.ds_pagemap_laws.proofs.LawfulCalls.{command_lawful}
 use Rattle.ds_pagemap_laws.proofs.Ends.{no_call_makes_an_end, no_command_makes_an_end}
-use Rattle.ds_refinement.specs.Held.{Kept, whole}
+use Rattle.ds_refinement.specs.Held.{Kept}
+use Rattle.ds_refinement.specs.Inner.Held.{whole}
 use Rattle.ds_refinement.specs.Units.{ends_in_stop, ends_in_call}
-use Rattle.ds_refinement.specs.Services.{Serves}
-use Rattle.ds_monitor.specs.Kept.{kept_after}
-use Rattle.ds_monitor.specs.Ended.{IsAlive, marks_of, ended_behind}
-use Rattle.ds_monitor.specs.Orderly.{IsOrderly}
+use Rattle.ds_refinement.specs.Inner.Services.{Serves}
+use Rattle.ds_monitor.specs.Inner.Kept.{kept_after}
+use Rattle.ds_monitor.specs.Inner.Ended.{IsAlive, marks_of, ended_after}
+use Rattle.ds_monitor.specs.Inner.Orderly.{IsOrderly}
 
 -- Lawful states.
 
@@ -62,8 +63,8 @@ lawful_whenever m time owed it = record {
 }
 
 -- a service that keeps states lawful keeps lawful what is kept
-lawful_behind : (f : State → State) (a b : Kept) (x y : List ℕ) → Serves f a x b y → (IsLawful (whole a x []) → IsLawful (f (whole a x []))) → IsLawful (whole a [] []) → IsLawful (whole b [] [])
-lawful_behind f a b x y s keeps it = lawful_anywhere b y [] ([] ++ s.lines) [] (subst IsLawful (s.state []) (keeps (lawful_anywhere a [] x [] [] it)))
+lawful_after : (f : State → State) (a b : Kept) (x y : List ℕ) → Serves f a x b y → (IsLawful (whole a x []) → IsLawful (f (whole a x []))) → IsLawful (whole a [] []) → IsLawful (whole b [] [])
+lawful_after f a b x y s keeps it = lawful_anywhere b y [] ([] ++ s.lines) [] (subst IsLawful (s.state []) (keeps (lawful_anywhere a [] x [] [] it)))
 
 -- Who has ended.
 
@@ -98,7 +99,7 @@ marks_denied : (m : State) (p pc a : ℕ) (r : Result PageState ℕ) → marks_o
 marks_denied m p pc a (Ok s) = marks_answered m p 0
 marks_denied m p pc a (Err n) = marks_answered m p n
 
-marks_served : (m : State) (p pc : ℕ) (c : Call) → 0 < p → p ≤ length m.processes → IsAlive m p → marks_of (served m p pc c) ≡ ended_behind c p (marks_of m)
+marks_served : (m : State) (p pc : ℕ) (c : Call) → 0 < p → p ≤ length m.processes → IsAlive m p → marks_of (served m p pc c) ≡ ended_after c p (marks_of m)
 marks_served m p pc call.Exit above within alive = map-set (λ (x : Process). has_ended x.standing) m.processes (p - 1) _
 marks_served m p pc (call.Put byte) above within alive = marks_answered m p 0
 marks_served m p pc call.Get above within alive = marks_got m p (queue_of m p)
@@ -116,14 +117,14 @@ marks_served m p pc call.Unknown above within alive = marks_answered m p _
 abbrev pub asked_at : ℕ → ℕ → State → Call
 asked_at p pc m = call_of (process_of (at_pc (settle m p) p (word (pc + 4))) p).registers.general
 
-marks_called : (p pc : ℕ) (m : State) → 0 < p → p ≤ length m.processes → IsAlive m p → marks_of (ends_in_call p pc m) ≡ ended_behind (asked_at p pc m) p (marks_of m)
+marks_called : (p pc : ℕ) (m : State) → 0 < p → p ≤ length m.processes → IsAlive m p → marks_of (ends_in_call p pc m) ≡ ended_after (asked_at p pc m) p (marks_of m)
 marks_called p pc m above within alive =
     let rested = settle m p in
     let there : p ≤ length rested.processes = still m p _ within in
     let resting : IsAlive rested p = alive_put m p _ above within alive in
-    let behind = at_pc rested p (word (pc + 4)) in
-    marks_served behind p pc (asked_at p pc m) above (still rested p _ there) (alive_put rested p _ above there resting)
-    ∙ ap (ended_behind (asked_at p pc m) p) (marks_same rested p _ refl ∙ marks_same m p _ refl)
+    let afterwards = at_pc rested p (word (pc + 4)) in
+    marks_served afterwards p pc (asked_at p pc m) above (still rested p _ there) (alive_put rested p _ above there resting)
+    ∙ ap (ended_after (asked_at p pc m) p) (marks_same rested p _ refl ∙ marks_same m p _ refl)
   where
     still : (m : State) (p : ℕ) (q : Process) → p ≤ length m.processes → p ≤ length (with_process m p q).processes
     still m p q h = subst (λ (n : ℕ). p ≤ n) (sym (length-set m.processes (p - 1) q)) h
@@ -140,21 +141,21 @@ pub good_as : (n k : ℕ) (cs ds : List TimedCommand) → n ≡ k → cs ≡ ds 
 good_as n k cs ds named commands good = subst (λ (x : ℕ). AreGoodCommands x cs) (sym named) (subst (λ (xs : List TimedCommand). AreGoodCommands k xs) (sym commands) good)
 
 -- a service that makes no end leaves the time before which there is none
-ends_behind : (f : State → State) (a b : Kept) (x y : List ℕ) → Serves f a x b y → b.ends ≡ a.ends → (NoneEndsBefore a.ends a.grants.table → NoneEndsBefore a.ends (f (whole a x [])).memory.table)
+ends_after : (f : State → State) (a b : Kept) (x y : List ℕ) → Serves f a x b y → b.ends ≡ a.ends → (NoneEndsBefore a.ends a.grants.table → NoneEndsBefore a.ends (f (whole a x [])).memory.table)
     → NoneEndsBefore a.ends a.grants.table → NoneEndsBefore b.ends b.grants.table
-ends_behind f a b x y s ends keeps it =
+ends_after f a b x y s ends keeps it =
     subst (λ (n : ℕ). NoneEndsBefore n b.grants.table) (sym ends) (subst (λ (m : State). NoneEndsBefore a.ends m.memory.table) (s.state []) (keeps it))
 
 -- a call leaves it orderly
 pub call_orderly : (p pc : ℕ) (a b : Kept) (x y : List ℕ) → 0 < p → p ≤ length a.state.processes → IsAlive a.state p → Serves (ends_in_call p pc) a x b y
-    → b.grants.ended ≡ ended_behind (asked_at p pc (whole a x [])) p a.grants.ended → b.grants.named ≡ a.grants.named → b.state.commands ≡ a.state.commands → b.ends ≡ a.ends → IsOrderly a → IsOrderly b
+    → b.grants.ended ≡ ended_after (asked_at p pc (whole a x [])) p a.grants.ended → b.grants.named ≡ a.grants.named → b.state.commands ≡ a.state.commands → b.ends ≡ a.ends → IsOrderly a → IsOrderly b
 call_orderly p pc a b x y above within alive s ended named commands ends it =
     let m = whole a x [] in
     record {
-      lawful = lawful_behind (ends_in_call p pc) a b x y s (λ l. lawful_whenever (after_call m p pc) (after_call m p pc).time (Some (record { began = m.time; runner = Some p })) (after_call_lawful m p pc above within l)) it.lawful;
-      ended = sym (ap (λ (n : State). marks_of n) (s.state [])) ∙ (marks_called p pc m above within alive ∙ (ap (ended_behind (asked_at p pc m) p) it.ended ∙ sym ended));
+      lawful = lawful_after (ends_in_call p pc) a b x y s (λ l. lawful_whenever (after_call m p pc) (after_call m p pc).time (Some (record { began = m.time; runner = Some p })) (after_call_lawful m p pc above within l)) it.lawful;
+      ended = sym (ap (λ (n : State). marks_of n) (s.state [])) ∙ (marks_called p pc m above within alive ∙ (ap (ended_after (asked_at p pc m) p) it.ended ∙ sym ended));
       commands = good_as b.grants.named a.grants.named b.state.commands a.state.commands named commands it.commands;
-      ends = ends_behind (ends_in_call p pc) a b x y s ends (no_call_makes_an_end a.ends (at_pc (settle m p) p (word (pc + 4))) p pc (asked_at p pc m)) it.ends;
+      ends = ends_after (ends_in_call p pc) a b x y s ends (no_call_makes_an_end a.ends (at_pc (settle m p) p (word (pc + 4))) p pc (asked_at p pc m)) it.ends;
     }
 
 -- a stop leaves it orderly
@@ -163,20 +164,20 @@ pub stop_orderly : (p unit pc : ℕ) (stop : Stop) (a b : Kept) (x y : List ℕ)
 stop_orderly p unit pc stop a b x y above within alive s ended named commands ends it =
     let m = whole a x [] in
     record {
-      lawful = lawful_behind (ends_in_stop p unit pc stop) a b x y s (λ l. lawful_whenever (parked m p unit pc stop) (parked m p unit pc stop).time (Some (record { began = m.time; runner = Some p })) (parked_lawful m p unit pc stop above l)) it.lawful;
+      lawful = lawful_after (ends_in_stop p unit pc stop) a b x y s (λ l. lawful_whenever (parked m p unit pc stop) (parked m p unit pc stop).time (Some (record { began = m.time; runner = Some p })) (parked_lawful m p unit pc stop above l)) it.lawful;
       ended = sym (ap (λ (n : State). marks_of n) (s.state [])) ∙ (marks_stopped p unit pc stop m above within alive ∙ (it.ended ∙ sym ended));
       commands = good_as b.grants.named a.grants.named b.state.commands a.state.commands named commands it.commands;
-      ends = ends_behind (ends_in_stop p unit pc stop) a b x y s ends (λ before. before) it.ends;
+      ends = ends_after (ends_in_stop p unit pc stop) a b x y s ends (λ before. before) it.ends;
     }
 
 -- a command leaves it orderly
 pub command_orderly : (n : ℕ) (c : Command) (a b : Kept) (x y : List ℕ) → Serves (λ (m : State). after_command m n c) a x b y
     → marks_of b.state ≡ b.grants.ended → b.grants.named ≡ a.grants.named → b.state.commands ≡ a.state.commands → b.ends ≡ a.ends → IsOrderly a → IsOrderly b
 command_orderly n c a b x y s ended named commands ends it = record {
-  lawful = lawful_behind (λ (m : State). after_command m n c) a b x y s (λ l. command_lawful (whole a x []) n c l) it.lawful;
+  lawful = lawful_after (λ (m : State). after_command m n c) a b x y s (λ l. command_lawful (whole a x []) n c l) it.lawful;
   ended = ended;
   commands = good_as b.grants.named a.grants.named b.state.commands a.state.commands named commands it.commands;
-  ends = ends_behind (λ (m : State). after_command m n c) a b x y s ends (no_command_makes_an_end a.ends (whole a x []) n c) it.ends;
+  ends = ends_after (λ (m : State). after_command m n c) a b x y s ends (no_command_makes_an_end a.ends (whole a x []) n c) it.ends;
 }
 
 -- and so does one that is taken out of those to come

@@ -4,9 +4,10 @@ use Rattle.std.specs.Prelude.{slice_index_or}
 use Rattle.std.proofs.lemmas.Bool.Decides.{nat_tests}
 use Rattle.ds_policy.specs.declared.grant.Right.{Right}
 use Rattle.ds_policy.specs.Grants.{PageState, give, take, grant, narrow, revoke, drop_by_command}
-use Rattle.ds_grants.specs.State.{GrantsState, lives_in}
+use Rattle.ds_grants.specs.State.{GrantsState}
+use Rattle.ds_grants.specs.Inner.State.{lives_in}
 use Rattle.ds_pagemap.specs.Machine.{State, Process, no_process, process_of, has_ended, lives}
-use Rattle.ds_monitor.specs.Ended.{marks_of}
+use Rattle.ds_monitor.specs.Inner.Ended.{marks_of}
 
 below_next : (i n : ℕ) → nat_lt (suc i) (suc n) ≡ nat_lt i n
 below_next i n = grind (arith, nat_tests)

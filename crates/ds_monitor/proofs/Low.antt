@@ -1,6 +1,6 @@
 -- Memory in which no frame of a page changes.
 use Rattle.std.proofs.Common.{ℕ, List, ◌∙◌, refl}
-use Rattle.ds_grants.specs.Represented.{IsLow}
+use Rattle.ds_grants.specs.Inner.Represented.{IsLow}
 
 pub low_same : (x : List ℕ) → IsLow x x
 low_same x = (refl, λ f high. refl)

@@ -2,17 +2,17 @@
 use Rattle.std.proofs.Common.{◌≡◌, ◌∙◌, ℕ, zero, suc, ◌*◌, ◌%◌, ◌<◌, ◌^◌, ◌&&◌, Bool, true, cond, refl, ap, arith}
 use Rattle.std.specs.Prelude.{Option, Some, None}
 use Rattle.ds_word.specs.Word.{bits}
-use Rattle.ds_dev.specs.Serial.{SerialState, is_ready, line_of, with_enables, transmitted, sent}
+use Rattle.ds_dev.specs.Serial.{SerialState, can_send, lowest_line, with_enables, transmitted, sent}
 use Rattle.ds_dev.specs.Bus.{BusState, with_serial}
-use Rattle.ds_monitor.specs.Sending.{written, with_sent}
+use Rattle.ds_monitor.specs.Inner.Sending.{written, with_sent}
 
 -- the state of the lines with a line enabled
 abbrev enabled : SerialState → ℕ → SerialState
 enabled d enables = record d { enables = enables }
 
 -- a character that can be sent leaves on the lowest line that is enabled
-leaves : (d : SerialState) (byte : ℕ) → is_ready d ≡ true → sent (transmitted d byte) ≡ (Some (line_of d.enables, byte), record d { waiting = None })
-leaves d byte ready = ap (λ (r : Bool). sent (cond r (record d { waiting = Some (record { line = line_of d.enables; byte = byte }) }) d)) ready
+leaves : (d : SerialState) (byte : ℕ) → can_send d ≡ true → sent (transmitted d byte) ≡ (Some (lowest_line d.enables, byte), record d { waiting = None })
+leaves d byte ready = ap (λ (r : Bool). sent (cond r (record d { waiting = Some (record { line = lowest_line d.enables; byte = byte }) }) d)) ready
 
 -- it leaves on the one line that is enabled
 pub sends : (d : SerialState) (line byte : ℕ) → line < 4 → d.master_scan ≡ true

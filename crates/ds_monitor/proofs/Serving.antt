@@ -7,17 +7,18 @@ use Rattle.ds_log.specs.declared.line.Line.{Line}
 use Rattle.ds_log.specs.Text.{line_text}
 use Rattle.ds_grants.specs.State.{page_state}
 use Rattle.ds_pagemap.specs.Machine.{State}
-use Rattle.ds_refinement.specs.Held.{Kept, whole, no_memory}
-use Rattle.ds_refinement.specs.Services.{IsBare, Serves}
-use Rattle.ds_monitor.specs.Blind.{IsBlind}
-use Rattle.ds_monitor.specs.Kept.{kept_after}
+use Rattle.ds_refinement.specs.Held.{Kept, no_memory}
+use Rattle.ds_refinement.specs.Inner.Held.{whole}
+use Rattle.ds_refinement.specs.Inner.Services.{IsBare, Serves}
+use Rattle.ds_monitor.specs.Inner.Blind.{IsBlind}
+use Rattle.ds_monitor.specs.Inner.Kept.{kept_after}
 
 bare_state : (m : State) → IsBare m → m ≡ record m { memory = no_memory; log = [] }
 bare_state m b = ap₂ (λ (s : PageState) (l : List Line). record m { memory = s; log = l }) b.memory b.log
 
 -- what is done blindly leaves a bare state bare
-pub bare_behind : (f : State → State) (m : State) → IsBlind f → IsBare m → IsBare (f m)
-bare_behind f m blind b =
+pub bare_after : (f : State → State) (m : State) → IsBlind f → IsBare m → IsBare (f m)
+bare_after f m blind b =
     let e : f m ≡ record (f m) { memory = no_memory; log = [] } = ap f (bare_state m b) ∙ blind m no_memory [] in
     record { memory = ap (λ (s : State). s.memory) e; log = ap (λ (s : State). s.log) e }
 
@@ -26,7 +27,7 @@ pub blind_serves : (f : State → State) (k : Kept) (memory : List ℕ) → IsBl
 blind_serves f k memory blind b = record {
   lines = [];
   state = λ log. blind k.state (page_state k.grants memory) log ∙ ap (λ (l : List Line). whole (kept_after f k) memory l) (sym (append-nil log));
-  bare = bare_behind f k.state blind b;
+  bare = bare_after f k.state blind b;
   text = sym (append-nil k.log);
   count = omega arith;
 }

@@ -9,10 +9,11 @@ use Rattle.ds_log.specs.Text.{line_text}
 use Rattle.ds_pagemap.specs.Machine.{State, Process, process_of, made_unready}
 use Rattle.ds_pagemap.specs.Unit.{Stop, with_registers, at_pc, settle}
 use Rattle.ds_pagemap.proofs.Processes.{process_of-with_process, with_process-process_of}
-use Rattle.ds_refinement.specs.Held.{Kept, whole}
+use Rattle.ds_refinement.specs.Held.{Kept}
+use Rattle.ds_refinement.specs.Inner.Held.{whole}
 use Rattle.ds_refinement.specs.Units.{ends_in_stop, owes_boundary}
-use Rattle.ds_refinement.specs.Services.{IsBare, Serves}
-use Rattle.ds_monitor.specs.Kept.{kept_after}
+use Rattle.ds_refinement.specs.Inner.Services.{IsBare, Serves}
+use Rattle.ds_monitor.specs.Inner.Kept.{kept_after}
 
 -- where no load is late, none is finished
 pub settle_same : (m : State) (p : ℕ) → (process_of m p).registers.late ≡ None → settle m p ≡ m

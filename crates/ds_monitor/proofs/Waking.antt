@@ -5,12 +5,12 @@ use Rattle.std.proofs.lemmas.Bool.Decides.{nat_tests}
 use Rattle.std.specs.List.{list_any}
 use Rattle.std.proofs.lemmas.List.{get_or-map, length-map}
 use Rattle.ds_procs.specs.declared.process.Standing.{Standing}
-use Rattle.ds_procs.specs.Queue.{IsQueue, without}
+use Rattle.ds_procs.specs.Inner.Queue.{IsQueue, without}
 use Rattle.ds_pagemap.specs.Machine.{State, Process, no_process, process_of, is_waiting, made_ready, first}
 use Rattle.ds_pagemap.specs.Calls.{queue_of}
 use Rattle.ds_pagemap.specs.Boundary.{wakes, woken}
 use Rattle.ds_refinement.specs.Held.{Kept}
-use Rattle.ds_monitor.specs.Kept.{kept_after}
+use Rattle.ds_monitor.specs.Inner.Kept.{kept_after}
 
 next_count : (count p : ℕ) → p < count + 1 → count + 1 - p ≡ suc (count + 1 - (p + 1))
 next_count count p l = omega (arith, l)

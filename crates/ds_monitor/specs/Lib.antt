@@ -1,10 +1,1 @@
-pub mod Consoles
-pub mod Kept
-pub mod Coming
-pub mod Commands
-pub mod Blind
-pub mod Room
-pub mod Ended
-pub mod Orderly
-pub mod Sending
-pub mod Taking
+pub mod Inner

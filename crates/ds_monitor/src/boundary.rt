@@ -3,9 +3,9 @@ ghost use Rattle.std.specs.Prelude.{◌≡◌, ◌<◌, ◌≤◌, ◌^◌, ℕ,
 ghost use Rattle.std.specs.List.{All, list_any};
 ghost use Rattle.ds_pagemap.specs.Machine.{State, Process, process_of, first};
 ghost use Rattle.ds_pagemap.specs.Boundary.{queued, wakes, woken, rotated};
-ghost use Rattle.ds_monitor.specs.Kept.{kept_of, kept_after};
-ghost use Rattle.ds_monitor.specs.Coming.{period_end, next_due};
-ghost use Rattle.ds_monitor.specs.Orderly.{IsOrderly};
+ghost use Rattle.ds_monitor.specs.Inner.Kept.{kept_of, kept_after};
+ghost use Rattle.ds_monitor.specs.Inner.Coming.{period_end, next_due};
+ghost use Rattle.ds_monitor.specs.Inner.Orderly.{IsOrderly};
 
 use crate::due::NEVER;
 use crate::monitor::Monitor;

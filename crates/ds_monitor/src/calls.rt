@@ -2,10 +2,10 @@
 ghost use Rattle.std.specs.Prelude.{◌≡◌, ◌<◌, ◌≤◌, length, drop, slice_get, slice_set, nat_lt, ◌^◌, true};
 ghost use Rattle.ds_pagemap.specs.Machine.{State, process_of, made_ready};
 ghost use Rattle.ds_pagemap.specs.Calls.{answered, queue_of, after_put, after_get, after_wait};
-ghost use Rattle.ds_monitor.specs.Consoles.{HasRoom, texts_of};
-ghost use Rattle.ds_monitor.specs.Sending.{leaving, shown, with_sent};
-ghost use Rattle.ds_monitor.specs.Taking.{got, with_taken};
-ghost use Rattle.ds_monitor.specs.Kept.{kept_of, kept_after};
+ghost use Rattle.ds_monitor.specs.Inner.Consoles.{HasRoom, texts_of};
+ghost use Rattle.ds_monitor.specs.Inner.Sending.{leaving, shown, with_sent};
+ghost use Rattle.ds_monitor.specs.Inner.Taking.{got, with_taken};
+ghost use Rattle.ds_monitor.specs.Inner.Kept.{kept_of, kept_after};
 
 use crate::monitor::Monitor;
 use crate::sending::send;

@@ -1,18 +1,18 @@
 //! What an operator's commands do, at a boundary.
 ghost use Rattle.std.specs.Prelude.{◌≡◌, ℕ, ◌+◌, ◌<◌, ◌≤◌, ◌^◌, List, length};
 ghost use Rattle.ds_policy.specs.declared.command.Command.{Command};
-ghost use Rattle.ds_grants.specs.Represented.{IsLow, Keeps};
-ghost use Rattle.ds_grants.specs.State.{IsAsLarge};
+ghost use Rattle.ds_grants.specs.Inner.Represented.{IsLow, Keeps};
+ghost use Rattle.ds_grants.specs.Inner.State.{IsAsLarge};
 ghost use Rattle.ds_pagemap.specs.Machine.{State, lives};
 ghost use Rattle.ds_pagemap.specs.Calls.{after_command};
 ghost use Rattle.ds_refinement.specs.Pairs.{HasNoNewPairs};
-ghost use Rattle.ds_refinement.specs.Services.{Serves};
-ghost use Rattle.ds_monitor.specs.Kept.{kept_of};
-ghost use Rattle.ds_monitor.specs.Commands.{Obeys, commanded, commands_by, with_refusal};
-ghost use Rattle.ds_monitor.specs.Ended.{marks_of};
+ghost use Rattle.ds_refinement.specs.Inner.Services.{Serves};
+ghost use Rattle.ds_monitor.specs.Inner.Kept.{kept_of};
+ghost use Rattle.ds_monitor.specs.Inner.Commands.{Obeys, commanded, commands_by, with_refusal};
+ghost use Rattle.ds_monitor.specs.Inner.Ended.{marks_of};
 ghost use Rattle.ds_policy.specs.InputFacts.{IsGoodCommand};
-ghost use Rattle.ds_monitor.specs.Orderly.{IsOrderly};
-ghost use Rattle.ds_monitor.specs.Room.{HasLogRoom};
+ghost use Rattle.ds_monitor.specs.Inner.Orderly.{IsOrderly};
+ghost use Rattle.ds_monitor.specs.Inner.Room.{HasLogRoom};
 
 use crate::monitor::Monitor;
 use ds_dev::Bus;

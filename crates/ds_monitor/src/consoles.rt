@@ -16,7 +16,7 @@ pub struct Consoles {
 }
 
 impl Consoles {
-    ghost use Rattle.ds_monitor.specs.Consoles.{texts_of, HasRoom};
+    ghost use Rattle.ds_monitor.specs.Inner.Consoles.{texts_of, HasRoom};
 
     /// Four empty texts.
     pub fn new(alloc: Global) -> Consoles

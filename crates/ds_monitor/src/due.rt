@@ -2,8 +2,8 @@
 ghost use Rattle.std.specs.Prelude.{◌≡◌, ◌∷◌, ◌<◌, ◌≤◌, IfSome, IsNone, All, length};
 ghost use Rattle.std.specs.List.Sorted.{IsNonDecreasingBy};
 ghost use Rattle.ds_policy.specs.InputFacts.{has_time, comes_at};
-ghost use Rattle.ds_monitor.specs.Coming.{first_time, first_event, first_due};
-ghost use Rattle.ds_monitor.specs.Commands.{commands_by};
+ghost use Rattle.ds_monitor.specs.Inner.Coming.{first_time, first_event, first_due};
+ghost use Rattle.ds_monitor.specs.Inner.Commands.{commands_by};
 
 use ds_policy::{Character, Events, TimedCommand};
 use std::marker::Model;
@@ -53,7 +53,7 @@ impl Due {
     }
 
     /// Commands and characters come in order, each character on one of four lines.
-    pub fn look_at_order(&self)
+    pub fn show_events_in_order(&self)
         ensures commands { IsNonDecreasingBy has_time self.now.commands }
         ensures order { IsNonDecreasingBy comes_at self.now.characters }
         ensures lines { All (λ c. c.line < 4) self.now.characters }

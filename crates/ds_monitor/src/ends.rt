@@ -2,12 +2,12 @@
 ghost use Rattle.std.specs.Prelude.{◌≡◌, ◌<◌, ℕ};
 ghost use Rattle.ds_policy.specs.Pages.{Table};
 ghost use Rattle.ds_policy.specs.Ends.{is_reached, has_some_expired, NoneEndsBefore};
-ghost use Rattle.ds_grants.specs.Represented.{IsLow, Keeps};
+ghost use Rattle.ds_grants.specs.Inner.Represented.{IsLow, Keeps};
 ghost use Rattle.ds_refinement.specs.Pairs.{HasNoNewPairs};
-ghost use Rattle.ds_refinement.specs.Services.{Serves};
-ghost use Rattle.ds_monitor.specs.Kept.{kept_of};
-ghost use Rattle.ds_monitor.specs.Commands.{with_ends};
-ghost use Rattle.ds_monitor.specs.Orderly.{IsOrderly};
+ghost use Rattle.ds_refinement.specs.Inner.Services.{Serves};
+ghost use Rattle.ds_monitor.specs.Inner.Kept.{kept_of};
+ghost use Rattle.ds_monitor.specs.Inner.Commands.{with_ends};
+ghost use Rattle.ds_monitor.specs.Inner.Orderly.{IsOrderly};
 
 use crate::due::NEVER;
 use crate::monitor::Monitor;

@@ -4,14 +4,14 @@ ghost use Rattle.ds_policy.specs.PolicyParts.{sources_of};
 ghost use Rattle.ds_policy.specs.InputFacts.{AreGoodCommands};
 ghost use Rattle.ds_pagemap.specs.First.{first_process, first_state, numbers};
 ghost use Rattle.ds_refinement.specs.First.{first_kept};
-ghost use Rattle.ds_refinement.specs.Stands.{IsKept};
+ghost use Rattle.ds_refinement.specs.Inner.Stands.{IsKept};
 ghost use Rattle.ds_mem.specs.Memory.{frame_of};
 ghost use Rattle.ds_tlb.specs.Entries.{empty_entries};
 ghost use Rattle.ds_tables.specs.Tables.{HasEmptyTable};
 ghost use Rattle.ds_grants.specs.Represented.{IsRepresented};
-ghost use Rattle.ds_monitor.specs.Kept.{kept_of};
-ghost use Rattle.ds_monitor.specs.Coming.{next_due};
-ghost use Rattle.ds_monitor.specs.Orderly.{IsOrderly};
+ghost use Rattle.ds_monitor.specs.Inner.Kept.{kept_of};
+ghost use Rattle.ds_monitor.specs.Inner.Coming.{next_due};
+ghost use Rattle.ds_monitor.specs.Inner.Orderly.{IsOrderly};
 
 use crate::consoles::Consoles;
 use crate::due::Due;

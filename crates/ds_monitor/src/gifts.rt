@@ -2,15 +2,15 @@
 ghost use Rattle.std.specs.Prelude.{◌≡◌, ℕ, ◌+◌, ◌<◌, ◌≤◌, ◌^◌, List, length, OnOk, IfErr, Err};
 ghost use Rattle.ds_policy.specs.Pages.{entry_at, page_address};
 ghost use Rattle.ds_procs.specs.declared.call.Call.TheVariants as call;
-ghost use Rattle.ds_grants.specs.State.{IsAsLarge, number_of};
-ghost use Rattle.ds_grants.specs.Represented.{IsLow, Keeps};
+ghost use Rattle.ds_grants.specs.Inner.State.{IsAsLarge, grant_fault_number};
+ghost use Rattle.ds_grants.specs.Inner.Represented.{IsLow, Keeps};
 ghost use Rattle.ds_pagemap.specs.Machine.{State};
-ghost use Rattle.ds_pagemap.specs.Calls.{rule_of, or_denied, served};
+ghost use Rattle.ds_pagemap.specs.Calls.{rule_number_of, or_denied, served};
 ghost use Rattle.ds_refinement.specs.Pairs.{HasNoNewPairs};
-ghost use Rattle.ds_refinement.specs.Services.{Serves};
-ghost use Rattle.ds_monitor.specs.Kept.{kept_of};
-ghost use Rattle.ds_monitor.specs.Ended.{marks_of};
-ghost use Rattle.ds_monitor.specs.Room.{HasLogRoom};
+ghost use Rattle.ds_refinement.specs.Inner.Services.{Serves};
+ghost use Rattle.ds_monitor.specs.Inner.Kept.{kept_of};
+ghost use Rattle.ds_monitor.specs.Inner.Ended.{marks_of};
+ghost use Rattle.ds_monitor.specs.Inner.Room.{HasLogRoom};
 
 use crate::monitor::Monitor;
 use ds_grants::GrantFault;
@@ -25,7 +25,7 @@ const REFUSED_GIVE: u32 = 8;
 /// What a call about grants is answered: 0, or the refusal's number.
 fn answer_of(done: Result<(), GrantFault>) -> u32
     ensures done { OnOk done (result ≡ 0) }
-    ensures refused { IfErr done (λ fault. result ≡ number_of fault) }
+    ensures refused { IfErr done (λ fault. result ≡ grant_fault_number fault) }
 {
     match done {
         Ok(()) => 0,
@@ -39,7 +39,7 @@ impl Monitor {
         requires above { 0 < process }
         requires within { process ≤ length self.now.grants.table }
         ensures { result
-            ≡ rule_of (entry_at self.now.grants.table process (page_address address)) }
+            ≡ rule_number_of (entry_at self.now.grants.table process (page_address address)) }
     {
         match self.grants.table().entry(process, address - address % 4096) {
             Some(grant) => grant.rule,

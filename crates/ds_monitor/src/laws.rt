@@ -4,10 +4,10 @@ ghost use Rattle.ds_isa.specs.Registers.{Registers};
 ghost use Rattle.ds_pagemap.specs.Machine.{State, process_of, with_process};
 ghost use Rattle.ds_pagemap_laws.specs.Lawful.{AreRegisters};
 ghost use Rattle.ds_refinement.specs.Held.{Kept};
-ghost use Rattle.ds_refinement.specs.Services.{IsBare, Serves};
-ghost use Rattle.ds_monitor.specs.Blind.{IsBlind};
-ghost use Rattle.ds_monitor.specs.Kept.{kept_after};
-ghost use Rattle.ds_monitor.specs.Orderly.{IsOrderly};
+ghost use Rattle.ds_refinement.specs.Inner.Services.{IsBare, Serves};
+ghost use Rattle.ds_monitor.specs.Inner.Blind.{IsBlind};
+ghost use Rattle.ds_monitor.specs.Inner.Kept.{kept_after};
+ghost use Rattle.ds_monitor.specs.Inner.Orderly.{IsOrderly};
 
 /// What is done to the state that is kept, without a look at pages, table and log, is done to the
 /// state of the machine.

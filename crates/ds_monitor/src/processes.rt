@@ -4,7 +4,7 @@ ghost use Rattle.ds_procs.specs.declared.process.Standing.{Standing};
 ghost use Rattle.ds_pagemap.specs.Machine.{State, Process, process_of, with_process, made_ready, made_unready, first};
 ghost use Rattle.ds_pagemap.specs.Unit.{at_pc};
 ghost use Rattle.ds_pagemap.specs.Calls.{answered};
-ghost use Rattle.ds_monitor.specs.Kept.{kept_of, kept_after};
+ghost use Rattle.ds_monitor.specs.Inner.Kept.{kept_of, kept_after};
 
 use crate::monitor::Monitor;
 use ds_procs::Standing;

@@ -2,7 +2,7 @@
 ghost use Rattle.std.specs.Prelude.{◌≡◌, ◌<◌, ◌≤◌, length};
 ghost use Rattle.ds_pagemap.specs.Machine.{process_of};
 ghost use Rattle.ds_pagemap.specs.Run as run;
-ghost use Rattle.ds_monitor.specs.Kept.{kept_of};
+ghost use Rattle.ds_monitor.specs.Inner.Kept.{kept_of};
 
 use crate::monitor::Monitor;
 use ds_procs::Standing;

@@ -1,7 +1,7 @@
 //! Room for what a unit and the boundary after it may write.
 ghost use Rattle.std.specs.Prelude.{◌≡◌, ◌≤◌, true, false};
-ghost use Rattle.ds_monitor.specs.Kept.{kept_of};
-ghost use Rattle.ds_monitor.specs.Room.{HasRoom};
+ghost use Rattle.ds_monitor.specs.Inner.Kept.{kept_of};
+ghost use Rattle.ds_monitor.specs.Inner.Room.{HasRoom};
 
 use crate::monitor::Monitor;
 use ds_log::LINE_ROOM;

@@ -1,6 +1,6 @@
 //! How a character leaves by the serial lines.
 ghost use Rattle.std.specs.Prelude.{◌≡◌, ◌<◌, true, Some};
-ghost use Rattle.ds_monitor.specs.Sending.{leaving, with_sent};
+ghost use Rattle.ds_monitor.specs.Inner.Sending.{leaving, with_sent};
 
 use ds_dev::Bus;
 

@@ -2,19 +2,19 @@
 ghost use Rattle.std.specs.Prelude.{◌≡◌, ℕ, ◌+◌, ◌-◌, ◌<◌, ◌≤◌, ◌^◌, true, List, length, slice_set, None};
 ghost use Rattle.ds_mem.specs.Memory.{frame_of};
 ghost use Rattle.ds_procs.specs.Calls.{call_of};
-ghost use Rattle.ds_log.specs.Length.{IsShortRule};
-ghost use Rattle.ds_grants.specs.State.{IsAsLarge};
-ghost use Rattle.ds_grants.specs.Represented.{Keeps};
+ghost use Rattle.ds_log.specs.Inner.Length.{IsShortRule};
+ghost use Rattle.ds_grants.specs.Inner.State.{IsAsLarge};
+ghost use Rattle.ds_grants.specs.Inner.Represented.{Keeps};
 ghost use Rattle.ds_pagemap.specs.Machine.{State, process_of};
 ghost use Rattle.ds_pagemap.specs.Calls.{ended, served};
 ghost use Rattle.ds_refinement.specs.Units.{ends_in_call, ends_in_stop};
 ghost use Rattle.ds_refinement.specs.Pairs.{HasNoNewPairs};
-ghost use Rattle.ds_refinement.specs.Services.{Serves};
-ghost use Rattle.ds_monitor.specs.Kept.{kept_of};
-ghost use Rattle.ds_monitor.specs.Room.{HasLogRoom, HasRoom};
-ghost use Rattle.ds_monitor.specs.Ended.{IsAlive, marks_of, ended_behind};
-ghost use Rattle.ds_monitor.specs.Orderly.{IsOrderly};
-ghost use Rattle.ds_monitor.specs.Sending.{bus_behind};
+ghost use Rattle.ds_refinement.specs.Inner.Services.{Serves};
+ghost use Rattle.ds_monitor.specs.Inner.Kept.{kept_of};
+ghost use Rattle.ds_monitor.specs.Inner.Room.{HasLogRoom, HasRoom};
+ghost use Rattle.ds_monitor.specs.Inner.Ended.{IsAlive, marks_of, ended_after};
+ghost use Rattle.ds_monitor.specs.Inner.Orderly.{IsOrderly};
+ghost use Rattle.ds_monitor.specs.Inner.Sending.{bus_after};
 
 use crate::calls::NOTHING;
 use crate::monitor::Monitor;
@@ -130,7 +130,7 @@ impl Monitor {
         requires on { bus.old.serial.master_scan ≡ true }
         ensures serves { Serves (λ (m : State). served m process pc call)
             (kept_of self.old) bus.old.memory (kept_of self.new) bus.new.memory }
-        ensures bus { bus.new ≡ record (bus_behind call
+        ensures bus { bus.new ≡ record (bus_after call
             (process_of (kept_of self.old).state process).line bus.old) {
               memory = bus.new.memory;
             } }
@@ -143,7 +143,7 @@ impl Monitor {
         ensures pairs { HasNoNewPairs (L.entries tlb.old) (L.entries tlb.new) }
         ensures random { L.random_place tlb.new ≡ L.random_place tlb.old }
         ensures ended { self.new.grants.ended
-            ≡ ended_behind call process self.old.grants.ended }
+            ≡ ended_after call process self.old.grants.ended }
         ensures same { IsAsLarge self.old.grants self.new.grants }
         ensures lines { self.new.lines ≤ self.old.lines + 1 }
         ensures room { (n : ℕ) → HasLogRoom (n + 1) self.old → HasLogRoom n self.new }
@@ -213,7 +213,7 @@ impl Monitor {
             (kept_of self.old) bus.old.memory (kept_of self.new) bus.new.memory }
         ensures orderly { IsOrderly (kept_of self.old) → IsAlive (kept_of self.old).state process
             → IsOrderly (kept_of self.new) }
-        ensures bus { bus.new ≡ record (bus_behind
+        ensures bus { bus.new ≡ record (bus_after
             (call_of (process_of (kept_of self.old).state process).registers.general)
             (process_of (kept_of self.old).state process).line bus.old) {
               memory = bus.new.memory;

@@ -1,12 +1,12 @@
 //! How a turn ends, and the log.
 ghost use Rattle.std.specs.Prelude.{◌≡◌, ℕ, ◌+◌, ◌<◌, ◌≤◌, ◌^◌, ◌++◌, Some};
 ghost use Rattle.ds_log.specs.Text.{line_text};
-ghost use Rattle.ds_log.specs.Length.{IsShort};
+ghost use Rattle.ds_log.specs.Inner.Length.{IsShort};
 ghost use Rattle.ds_pagemap.specs.Machine.{State, first};
-ghost use Rattle.ds_refinement.specs.Services.{with_turn};
-ghost use Rattle.ds_monitor.specs.Kept.{kept_of, kept_after};
-ghost use Rattle.ds_monitor.specs.Orderly.{IsOrderly};
-ghost use Rattle.ds_monitor.specs.Room.{HasLogRoom};
+ghost use Rattle.ds_refinement.specs.Inner.Services.{with_turn};
+ghost use Rattle.ds_monitor.specs.Inner.Kept.{kept_of, kept_after};
+ghost use Rattle.ds_monitor.specs.Inner.Orderly.{IsOrderly};
+ghost use Rattle.ds_monitor.specs.Inner.Room.{HasLogRoom};
 
 use crate::monitor::Monitor;
 use ds_log::{Line, append, line_fits};

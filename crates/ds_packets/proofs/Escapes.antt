@@ -4,10 +4,10 @@ use Rattle.std.proofs.lemmas.List.{take_all}
 use Rattle.ds_packets.specs.Framing.{unescaped}
 
 -- bytes before those that were read
-abbrev pub behind : List ℕ → Option (List ℕ) → Option (List ℕ)
-behind done read = option_map (λ bytes. done ++ bytes) read
+abbrev pub afterwards : List ℕ → Option (List ℕ) → Option (List ℕ)
+afterwards done read = option_map (λ bytes. done ++ bytes) read
 
-moved : (done : List ℕ) (x : ℕ) (read : Option (List ℕ)) → behind done (option_map (λ bytes. x ∷ bytes) read) ≡ behind (done ++ x ∷ []) read
+moved : (done : List ℕ) (x : ℕ) (read : Option (List ℕ)) → afterwards done (option_map (λ bytes. x ∷ bytes) read) ≡ afterwards (done ++ x ∷ []) read
 moved done x None = refl
 moved done x (Some bytes) = ap (λ b. Some b) (sym (append_assoc done (x ∷ []) bytes))
 
@@ -17,14 +17,14 @@ tail left = take (length left - 1) (drop 1 left)
 
 -- after an escape, which has a byte behind it
 pub escape_step : (done left : List ℕ) → 1 ≤ length (tail left) → get_or left 0 0 ≡ 125
-    → behind (done ++ bit_xor (get_or (tail left) 0 0) 32 ∷ []) (unescaped (tail (tail left))) ≡ behind done (unescaped left)
+    → afterwards (done ++ bit_xor (get_or (tail left) 0 0) 32 ∷ []) (unescaped (tail (tail left))) ≡ afterwards done (unescaped left)
 escape_step done [] one is = absurd (omega arith)
 escape_step done (a ∷ []) one is = absurd (omega arith)
 escape_step done (a ∷ b ∷ text) one is = rw (is, take_all (length (a ∷ b ∷ text) - 1) (b ∷ text) (omega arith), take_all (length (b ∷ text) - 1) text (omega arith)) (sym (moved done (bit_xor b 32) (unescaped text)))
 
 -- after any other byte
 pub plain_step : (done left : List ℕ) → 1 ≤ length left → nat_eq (get_or left 0 0) 125 ≡ false
-    → behind (done ++ get_or left 0 0 ∷ []) (unescaped (tail left)) ≡ behind done (unescaped left)
+    → afterwards (done ++ get_or left 0 0 ∷ []) (unescaped (tail left)) ≡ afterwards done (unescaped left)
 plain_step done [] one is = absurd (omega arith)
 plain_step done (a ∷ []) one is = rw is (ap (λ b. Some b) (append-nil (done ++ a ∷ [])))
 plain_step done (a ∷ b ∷ text) one is = rw (is, take_all (length (a ∷ b ∷ text) - 1) (b ∷ text) (omega arith)) (sym (moved done a (unescaped (b ∷ text))))

@@ -6,7 +6,8 @@ use Rattle.std.specs.List.{AllByRecursion}
 use Rattle.ds_word.specs.Digits.{digit_of}
 use Rattle.ds_packets.specs.Scans.{Between}
 use Rattle.ds_packets.specs.Scanning.{data_of, or_cut, writes}
-use Rattle.ds_packets.specs.Streams.{IsText, all_came}
+use Rattle.ds_packets.specs.Streams.{all_came}
+use Rattle.ds_packets.specs.Inner.Streams.{IsText}
 use Rattle.ds_packets.proofs.Pieces.{came_text}
 use Rattle.ds_packets.specs.Framing.{is_special, escape, escaped, unescaped, hex_digit, hex_pair, pair_of, frame}
 

@@ -2,7 +2,8 @@
 use Rattle.std.proofs.Common.{◌≡◌, sym, ◌∙◌, ap, ℕ, Bool, true, false, ◌&&◌, ◌||◌, is_some, List, Option, Some, None}
 use Rattle.std.specs.List.{list_all, list_any}
 use Rattle.ds_packets.specs.declared.packet.Action.{Action}
-use Rattle.ds_packets.specs.Words.{before, later, parts}
+use Rattle.ds_packets.specs.Words.{before, parts}
+use Rattle.ds_packets.specs.Inner.Words.{later}
 use Rattle.ds_packets.specs.Packets.{chosen, first_action, is_feature, or_else, step_of}
 use Rattle.ds_packets.proofs.Parts.{left_parts, parts_step}
 

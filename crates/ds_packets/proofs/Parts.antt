@@ -6,7 +6,8 @@ use Rattle.std.proofs.lemmas.List.Elements.{All-from_get_or}
 use Rattle.std.proofs.lemmas.List.Sums.{fails_before_first}
 use Rattle.std.proofs.lemmas.Bool.Decides.{nat_tests}
 use Rattle.std.specs.List.{position_or_len}
-use Rattle.ds_packets.specs.Words.{after, before, later, parts}
+use Rattle.ds_packets.specs.Words.{after_mark, before, parts}
+use Rattle.ds_packets.specs.Inner.Words.{later}
 use Rattle.ds_packets.proofs.Cuts.{cut_some, cut_none, none_is}
 
 -- the words of what is left, if there is more
@@ -24,14 +25,14 @@ pub later_some : (xs : List ℕ) (i : ℕ) → position (λ b. b == 59) xs ≡ S
 later_some xs i is =
     let cut = cut_some 59 xs i is in
     let n = position_or_len (λ b. b == 59) xs in
-    (cut.0, ap (λ t. Some t) cut.1 ∙ sym (ap (λ b. cond b (Some (after 59 xs)) None) (some_chosen (nat_lt n (length xs)) n i is)))
+    (cut.0, ap (λ t. Some t) cut.1 ∙ sym (ap (λ b. cond b (Some (after_mark 59 xs)) None) (some_chosen (nat_lt n (length xs)) n i is)))
 
 -- where none does
 pub later_none : (xs : List ℕ) → position (λ b. b == 59) xs ≡ None → (xs ≡ before 59 xs) × (None ≡ later xs)
 later_none xs is =
     let cut = cut_none 59 xs is in
     let n = position_or_len (λ b. b == 59) xs in
-    (cut.0, sym (ap (λ b. cond b (Some (after 59 xs)) None) (none_is (nat_lt n (length xs)) n is)))
+    (cut.0, sym (ap (λ b. cond b (Some (after_mark 59 xs)) None) (none_is (nat_lt n (length xs)) n is)))
 
 less_told : (a b : ℕ) → nat_lt a b ≡ true → a < b
 less_told a b is = grind (arith, nat_tests)
@@ -44,7 +45,7 @@ pub parts_step : (text : List ℕ) → parts text ≡ before 59 text ∷ left_pa
 parts_step text = by_test (nat_lt (position_or_len (λ b. b == 59) text) (length text)) refl
   where
     by_test : (found : Bool) → nat_lt (position_or_len (λ b. b == 59) text) (length text) ≡ found
-        → parts text ≡ before 59 text ∷ left_parts (cond found (Some (after 59 text)) None)
+        → parts text ≡ before 59 text ∷ left_parts (cond found (Some (after_mark 59 text)) None)
     by_test true is = slice_split_first (λ b. b == 59) text 0 (less_told _ _ is)
     by_test false is =
         let far : length text ≤ position_or_len (λ b. b == 59) text = more_told _ _ is in

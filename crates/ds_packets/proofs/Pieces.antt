@@ -5,7 +5,8 @@ use Rattle.std.proofs.lemmas.Bool.Decides.{eqb_tells, nat_tests}
 use Rattle.std.specs.List.{AllByRecursion}
 use Rattle.ds_packets.specs.declared.scan.PacketFault.TheVariants.{Long}
 use Rattle.ds_packets.specs.Scans.{Scan, Between, Within, Ended, Half}
-use Rattle.ds_packets.specs.Streams.{Piece, Passed, Framed, TooLong, bytes_of, IsText, IsPiece, said, so_far, IsCut, all_came, stream_of, all_said, IsSplit}
+use Rattle.ds_packets.specs.Streams.{all_came}
+use Rattle.ds_packets.specs.Inner.Streams.{Piece, Passed, Framed, TooLong, bytes_of, IsText, IsPiece, said, so_far, IsCut, stream_of, all_said, IsSplit}
 
 room_left : (n : ℕ) → n < 4096 → nat_lt n 4096 ≡ true
 room_left n h = grind (arith, nat_tests)

@@ -4,3 +4,4 @@ pub mod Scanning
 pub mod Packets
 pub mod Streams
 pub mod Words
+pub mod Inner

@@ -14,12 +14,12 @@ use Rattle.ds_packets.specs.declared.packet.Packet.TheVariants.{Supported, NoAck
 use Rattle.ds_packets.specs.declared.packet.Refusal.{Refusal}
 use Rattle.ds_packets.specs.declared.packet.Refusal.TheVariants.{Unknown, Malformed}
 use Rattle.ds_packets.specs.Framing.{hex_text, pair_of}
-use Rattle.ds_packets.specs.Words.{after, before, number_of, pair_at, parts, who_of}
+use Rattle.ds_packets.specs.Words.{after_mark, before, hex_number, pair_at, parts, who_of}
 
 -- a packet, where its words were read
-abbrev pub told : Option Packet → Result Packet Refusal
-told None = Err Malformed
-told (Some packet) = Ok packet
+abbrev pub packet_read : Option Packet → Result Packet Refusal
+packet_read None = Err Malformed
+packet_read (Some packet) = Ok packet
 
 -- a packet that has nothing after its name
 abbrev pub alone : List ℕ → Packet → Result Packet Refusal
@@ -34,8 +34,8 @@ part_of (Some range) = Ok (Description range.0 range.1)
 abbrev pub described : List ℕ → Result Packet Refusal
 described rest =
     if bytes_eq (before 58 rest) (codes "features")
-    then (if bytes_eq (before 58 (after 58 rest)) (codes "read") && bytes_eq (before 58 (after 58 (after 58 rest))) (codes "target.xml")
-    then part_of (pair_at (after 58 (after 58 (after 58 rest))))
+    then (if bytes_eq (before 58 (after_mark 58 rest)) (codes "read") && bytes_eq (before 58 (after_mark 58 (after_mark 58 rest))) (codes "target.xml")
+    then part_of (pair_at (after_mark 58 (after_mark 58 (after_mark 58 rest))))
     else Err Malformed)
     else Err Unknown
 
@@ -62,8 +62,8 @@ watchpoint set (Some range) = Ok (if set then Watch range.0 range.1 else Unwatch
 abbrev pub stopped_at : Bool → List ℕ → Result Packet Refusal
 stopped_at set rest =
     if bytes_eq (before 44 rest) (codes "0") || bytes_eq (before 44 rest) (codes "1")
-    then breakpoint set (pair_at (after 44 rest))
-    else if bytes_eq (before 44 rest) (codes "2") then watchpoint set (pair_at (after 44 rest))
+    then breakpoint set (pair_at (after_mark 44 rest))
+    else if bytes_eq (before 44 rest) (codes "2") then watchpoint set (pair_at (after_mark 44 rest))
     else Err Unknown
 
 -- after b: c or s
@@ -100,13 +100,13 @@ for_whom thread action = if length thread == 0 then Some (action, who.All) else 
 
 -- ACTION or ACTION:THREAD
 abbrev pub step_of : List ℕ → Option (Action × Who)
-step_of word = action_of (before 58 word) >>= for_whom (after 58 word)
+step_of word = action_of (before 58 word) >>= for_whom (after_mark 58 word)
 
 -- a process is among those that are named
-abbrev pub names : Who → ℕ → Bool
-names who.Any process = true
-names who.All process = true
-names (who.Process n) process = n == process
+abbrev pub names_process : Who → ℕ → Bool
+names_process who.Any process = true
+names_process who.All process = true
+names_process (who.Process n) process = n == process
 
 -- ;ACTION;ACTION..
 abbrev pub resumed : List ℕ → Result Packet Refusal
@@ -114,7 +114,7 @@ resumed rest = if list_all (λ word. is_some (step_of word)) (parts rest) then O
 
 -- the action of a word, if it is for the process
 abbrev pub chosen : ℕ → List ℕ → Option Action
-chosen process word = step_of word >>= (λ step. if names step.1 process then Some step.0 else None)
+chosen process word = step_of word >>= (λ step. if names_process step.1 process then Some step.0 else None)
 
 -- the first, or else the second
 abbrev pub or_else : Option Action → Option Action → Option Action
@@ -128,7 +128,7 @@ first_action (word ∷ words) process = or_else (chosen process word) (first_act
 
 -- the action that a vCont has for a process
 abbrev pub action_for : List ℕ → ℕ → Option Action
-action_for text process = first_action (parts (after 59 text)) process
+action_for text process = first_action (parts (after_mark 59 text)) process
 
 -- the feature of several processes
 abbrev pub is_feature : List ℕ → Bool
@@ -167,15 +167,15 @@ ticks_from n (high ∷ []) = None
 ticks_from n (high ∷ low ∷ rest) = option_and_then (λ t. ticks_from t rest) (more_ticks n (digit_at high low))
 
 -- that of one digit at least
-abbrev pub ticks_of : List ℕ → Option ℕ
-ticks_of [] = None
-ticks_of (high ∷ rest) = ticks_from 0 (high ∷ rest)
+abbrev pub ticks_written : List ℕ → Option ℕ
+ticks_written [] = None
+ticks_written (high ∷ rest) = ticks_from 0 (high ∷ rest)
 
 -- a time at which a run is to stop
 abbrev pub stop_asked : List ℕ → Result Packet Refusal
 stop_asked digits =
     if nat_lt (length digits) 10 then Err Unknown
-    else if bytes_eq (take 10 digits) (hex_text (codes "stop ")) then told (option_map (λ t. StopAt t) (ticks_of (drop 10 digits)))
+    else if bytes_eq (take 10 digits) (hex_text (codes "stop ")) then packet_read (option_map (λ t. StopAt t) (ticks_written (drop 10 digits)))
     else Err Unknown
 
 -- a report that is known, or a time at which a run is to stop
@@ -190,22 +190,22 @@ thread_info thread = option_map (λ w. ThreadInfo w) (who_of thread)
 -- a packet of several letters with arguments after a comma
 abbrev pub after_comma : List ℕ → Result Packet Refusal
 after_comma text =
-    if bytes_eq (before 44 text) (codes "qThreadExtraInfo") then told (thread_info (after 44 text))
-    else if bytes_eq (before 44 text) (codes "qRcmd") then monitored (report_of (after 44 text)) (after 44 text)
+    if bytes_eq (before 44 text) (codes "qThreadExtraInfo") then packet_read (thread_info (after_mark 44 text))
+    else if bytes_eq (before 44 text) (codes "qRcmd") then monitored (report_of (after_mark 44 text)) (after_mark 44 text)
     else Err Unknown
 
 -- a packet of several letters with arguments after a semicolon
 abbrev pub after_semicolon : List ℕ → Result Packet Refusal
 after_semicolon text =
-    if bytes_eq (before 59 text) (codes "vCont") then resumed (after 59 text)
+    if bytes_eq (before 59 text) (codes "vCont") then resumed (after_mark 59 text)
     else if bytes_eq (before 59 text) (codes "vKill") then Ok Leave
     else after_comma text
 
 -- a packet of several letters with arguments
 abbrev pub with_arguments : List ℕ → Result Packet Refusal
 with_arguments text =
-    if bytes_eq (before 58 text) (codes "qSupported") then Ok (Supported (is_multiple (after 58 text)))
-    else if bytes_eq (before 58 text) (codes "qXfer") then described (after 58 text)
+    if bytes_eq (before 58 text) (codes "qSupported") then Ok (Supported (is_multiple (after_mark 58 text)))
+    else if bytes_eq (before 58 text) (codes "qXfer") then described (after_mark 58 text)
     else if bytes_eq (before 58 text) (codes "qAttached") then Ok Attached
     else after_semicolon text
 
@@ -235,7 +235,7 @@ memory_of (Some range) = Some (Memory range.0 range.1)
 
 -- pNUMBER or mADDRESS,LENGTH
 abbrev pub seen : ℕ → List ℕ → Option Packet
-seen letter rest = if letter == 112 then option_map (λ n. Register n) (number_of rest) else memory_of (pair_at rest)
+seen letter rest = if letter == 112 then option_map (λ n. Register n) (hex_number rest) else memory_of (pair_at rest)
 
 -- TTHREAD
 abbrev pub alive : List ℕ → Option Packet
@@ -253,9 +253,9 @@ lettered letter rest =
     else if letter == 107 then alone rest End
     else if letter == 68 then Ok Leave
     else if is_among letter (codes "GMPX") then Ok Write
-    else if letter == 72 then told (looked rest)
-    else if letter == 84 then told (alive rest)
-    else if is_among letter (codes "pm") then told (seen letter rest)
+    else if letter == 72 then packet_read (looked rest)
+    else if letter == 84 then packet_read (alive rest)
+    else if is_among letter (codes "pm") then packet_read (seen letter rest)
     else if letter == 90 then stopped_at true rest
     else if letter == 122 then stopped_at false rest
     else if is_among letter (codes "csCS") then forward letter rest

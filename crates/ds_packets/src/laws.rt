@@ -4,7 +4,8 @@ ghost use Rattle.std.specs.List.{AllByRecursion};
 ghost use Rattle.ds_packets.specs.Framing.{escaped, frame};
 ghost use Rattle.ds_packets.specs.Scans.{Scan};
 ghost use Rattle.ds_packets.specs.Scanning.{start};
-ghost use Rattle.ds_packets.specs.Streams.{IsSplit, Piece, Splits, all_came, all_said};
+ghost use Rattle.ds_packets.specs.Streams.{all_came};
+ghost use Rattle.ds_packets.specs.Inner.Streams.{IsSplit, Piece, Splits, all_said};
 
 /// Each stream is pieces, and a packet that is not whole; and what comes of a stream is what these pieces
 /// say, whatever pieces it is taken for.

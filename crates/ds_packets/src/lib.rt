@@ -13,6 +13,6 @@ pub use data::{Data, MOST_DATA};
 pub use frame::{hex_digit, push_frame, push_hex};
 pub use laws::{what_a_stream_says, what_is_framed_comes};
 pub use packet::{Action, Packet, Refusal, Report, Who};
-pub use reading::{action_for, names};
+pub use reading::{action_for, names_process};
 pub use scan::{PacketFault, Scanner};
 pub use words::cut_at;

@@ -1,54 +1,19 @@
 //! Packets, read by their names and forms.
 ghost use Rattle.std.specs.Prelude.{◌≡◌, ◌<◌, ◌≤◌, IfSome};
 ghost use Rattle.ds_packets.specs.Words.{pair_at};
-ghost use Rattle.ds_packets.specs.Packets.{
-  action_for,
-  action_of,
-  after_comma,
-  after_semicolon,
-  alive,
-  alone,
-  back_of,
-  breakpoint,
-  chosen,
-  described,
-  digit_at,
-  forward,
-  has_long_name,
-  is_feature,
-  is_multiple,
-  is_signal,
-  lettered,
-  looked,
-  more_ticks,
-  named_packet,
-  names,
-  packet_of,
-  report_of,
-  thread_info,
-  resumed,
-  seen,
-  step_of,
-  stop_asked,
-  stopped_at,
-  ticks_from,
-  ticks_of,
-  told,
-  watchpoint,
-  with_arguments,
-};
+ghost use Rattle.ds_packets.specs.Packets.{action_for, action_of, after_comma, after_semicolon, alive, alone, back_of, breakpoint, chosen, described, digit_at, forward, has_long_name, is_feature, is_multiple, is_signal, lettered, looked, more_ticks, named_packet, names_process, packet_of, report_of, thread_info, resumed, seen, step_of, stop_asked, stopped_at, ticks_from, ticks_written, packet_read, watchpoint, with_arguments};
 
 use crate::packet::{Action, Packet, Refusal, Report, Who};
 use crate::scan::pair_of;
-use crate::words::{cut_at, number_of, pair_at, part_at, who_of};
+use crate::words::{cut_at, hex_number, pair_at, part_at, who_of};
 use ds_word::digit_of;
 
 /// The most ticks of a run.
 const MOST_TICKS: u64 = 1_000_000_000;
 
 /// A packet, where its words were read.
-fn told(packet: Option<Packet>) -> Result<Packet, Refusal>
-    ensures { result ≡ told packet }
+fn packet_read(packet: Option<Packet>) -> Result<Packet, Refusal>
+    ensures { result ≡ packet_read packet }
 {
     packet.ok_or(Refusal::Malformed)
 }
@@ -199,8 +164,8 @@ fn step_of(word: &[u8]) -> Option<(Action, Who)>
 }
 
 /// Whether a process is among those that are named.
-pub fn names(who: Who, process: u32) -> bool
-    ensures { result ≡ names who process }
+pub fn names_process(who: Who, process: u32) -> bool
+    ensures { result ≡ names_process who process }
 {
     match who {
         Who::Any | Who::All => true,
@@ -229,7 +194,7 @@ fn chosen(process: u32, word: &[u8]) -> Option<Action>
     ensures { result ≡ chosen process word.now }
 {
     let (action, who) = step_of(word)?;
-    if names(who, process) {
+    if names_process(who, process) {
         Some(action)
     } else {
         None
@@ -379,8 +344,8 @@ fn ticks_from(digits: &[u8]) -> Option<u64>
 }
 
 /// That of one digit at least.
-fn ticks_of(digits: &[u8]) -> Option<u64>
-    ensures { result ≡ ticks_of digits.now }
+fn ticks_written(digits: &[u8]) -> Option<u64>
+    ensures { result ≡ ticks_written digits.now }
 {
     match digits {
         [] => None,
@@ -395,7 +360,7 @@ fn stop_asked(digits: &[u8]) -> Result<Packet, Refusal>
     if digits.len() < 10 {
         Err(Refusal::Unknown)
     } else if &digits[..10] == b"73746f7020".as_slice() {
-        match ticks_of(&digits[10..]) {
+        match ticks_written(&digits[10..]) {
             Some(ticks) => Ok(Packet::StopAt(ticks)),
             None => Err(Refusal::Malformed),
         }
@@ -417,7 +382,7 @@ fn after_comma(text: &[u8]) -> Result<Packet, Refusal>
 {
     let (name, rest) = cut_at(text, b',');
     if name == b"qThreadExtraInfo".as_slice() {
-        told(thread_info(rest))
+        packet_read(thread_info(rest))
     } else if name == b"qRcmd".as_slice() {
         match report_of(rest) {
             Some(report) => Ok(Packet::Monitor(report)),
@@ -462,7 +427,7 @@ fn seen(letter: u8, rest: &[u8]) -> Option<Packet>
     ensures { result ≡ seen letter rest.now }
 {
     if letter == b'p' {
-        Some(Packet::Register(number_of(rest)?))
+        Some(Packet::Register(hex_number(rest)?))
     } else {
         let (address, length) = pair_at(rest)?;
         Some(Packet::Memory { address, length })
@@ -486,9 +451,9 @@ fn lettered(letter: u8, rest: &[u8]) -> Result<Packet, Refusal>
         b'k' => alone(rest, Packet::End),
         b'D' => Ok(Packet::Leave),
         b'G' | b'M' | b'P' | b'X' => Ok(Packet::Write),
-        b'H' => told(looked(rest)),
-        b'T' => told(alive(rest)),
-        b'p' | b'm' => told(seen(letter, rest)),
+        b'H' => packet_read(looked(rest)),
+        b'T' => packet_read(alive(rest)),
+        b'p' | b'm' => packet_read(seen(letter, rest)),
         b'Z' => stopped_at(true, rest),
         b'z' => stopped_at(false, rest),
         b'c' | b's' | b'C' | b'S' => forward(letter, rest),

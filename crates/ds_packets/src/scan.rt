@@ -1,7 +1,7 @@
 //! A stream of bytes, of which packets are found byte by byte.
 ghost use Rattle.std.specs.Prelude.{◌≡◌, ◌≤◌, ◌^◌, ◌%◌, ◌*◌, length, sum, IfSome};
 ghost use Rattle.ds_packets.specs.Scanning.{came, scanned, data_of, start};
-ghost use Rattle.ds_packets.specs.Scans.{IsWithin};
+ghost use Rattle.ds_packets.specs.Inner.Scans.{IsWithin};
 ghost use Rattle.ds_packets.specs.Framing.{pair_of};
 
 use crate::data::{Data, MOST_DATA, unescaped};
@@ -40,7 +40,8 @@ pub struct Scanner {
 }
 
 impl Model for Scanner {
-    ghost use Rattle.ds_packets.specs.Scans.{Scan, scan_of};
+    ghost use Rattle.ds_packets.specs.Scans.{Scan};
+    ghost use Rattle.ds_packets.specs.Inner.Scans.{scan_of};
 
     ghost Value = { Scan };
 

@@ -1,13 +1,14 @@
 //! Words of a packet: parts, numbers, and processes.
 ghost use Rattle.std.specs.Prelude.{◌≡◌, ◌<◌, ◌==◌, length, position, IfSome};
 ghost use Rattle.std.specs.Option.{option_copied};
-ghost use Rattle.ds_packets.specs.Words.{after, before, is_thread, later, named, number_of, numbered, pair_at, threaded, who_of};
+ghost use Rattle.ds_packets.specs.Words.{after_mark, before, is_thread, named, hex_number, process_numbered, pair_at, threaded, who_of};
+ghost use Rattle.ds_packets.specs.Inner.Words.{later};
 
 use crate::packet::Who;
 use ds_word::number_of_digits;
 
 /// The place of the first byte that is this one.
-fn place_of(text: &[u8], mark: u8) -> Option<usize>
+fn byte_place(text: &[u8], mark: u8) -> Option<usize>
     ensures { result ≡ position (λ b. b == mark) text.now }
 {
     text.iter().position(|b| *b == mark)
@@ -17,9 +18,9 @@ fn place_of(text: &[u8], mark: u8) -> Option<usize>
 #[tactic(auto, using(crate::proofs::Cuts::cut_some, crate::proofs::Cuts::cut_none))]
 pub fn cut_at(text: &[u8], mark: u8) -> (&[u8], &[u8])
     ensures front { result.0.now ≡ before mark text.now }
-    ensures back { result.1.now ≡ after mark text.now }
+    ensures back { result.1.now ≡ after_mark mark text.now }
 {
-    match place_of(text, mark) {
+    match byte_place(text, mark) {
         Some(place) => (&text[..place], &text[place + 1..]),
         None => (text, &[]),
     }
@@ -32,15 +33,15 @@ pub(crate) fn part_at(text: &[u8]) -> (&[u8], Option<&[u8]>)
     ensures back { option_copied result.1 ≡ later text.now }
     ensures shorter { IfSome result.1 (λ rest. length rest.now < length text.now) }
 {
-    match place_of(text, b';') {
+    match byte_place(text, b';') {
         Some(place) => (&text[..place], Some(&text[place + 1..])),
         None => (text, None),
     }
 }
 
 /// The number of one to eight hexadecimal digits.
-pub(crate) fn number_of(word: &[u8]) -> Option<u32>
-    ensures { result ≡ number_of word.now }
+pub(crate) fn hex_number(word: &[u8]) -> Option<u32>
+    ensures { result ≡ hex_number word.now }
 {
     if word.len() >= 1 && word.len() <= 8 {
         Some(number_of_digits(16, u64::from(u32::MAX), word)? as u32)
@@ -54,14 +55,14 @@ pub(crate) fn pair_at(word: &[u8]) -> Option<(u32, u32)>
     ensures { result ≡ pair_at word.now }
 {
     let (first, second) = cut_at(word, b',');
-    let first = number_of(first)?;
-    let second = number_of(second)?;
+    let first = hex_number(first)?;
+    let second = hex_number(second)?;
     Some((first, second))
 }
 
 /// The process of a number; 0 is any.
-fn numbered(number: u32) -> Who
-    ensures { result ≡ numbered number }
+fn process_numbered(number: u32) -> Who
+    ensures { result ≡ process_numbered number }
 {
     if number == 0 {
         Who::Any
@@ -77,7 +78,7 @@ fn named(word: &[u8]) -> Option<Who>
     if word == b"-1".as_slice() {
         Some(Who::All)
     } else {
-        Some(numbered(number_of(word)?))
+        Some(process_numbered(hex_number(word)?))
     }
 }
 

@@ -4,7 +4,7 @@ use Rattle.std.proofs.lemmas.Bool.{true≢false, and_parts, or_cases, false_from
 use Rattle.ds_policy.specs.declared.grant.Grant.{Grant}
 use Rattle.ds_policy.specs.Pages.{entry_at}
 use Rattle.ds_pagemap.specs.Laws.{KeepsAllButParent, IsOfOthers}
-use Rattle.ds_pagemap.specs.LawRows.{entry_of, shared, family, third, fourth}
+use Rattle.ds_pagemap.specs.Rows.LawRows.{entry_of, shared, family, third, fourth}
 
 pub its_giver_gave_it : IsOfOthers family 2 third → ⊥
 its_giver_gave_it of = of.itself refl

@@ -104,8 +104,8 @@ unit_leaves_from m n t l u = record {
 
 after_call-leaves : (m : State) (p pc : ℕ) → UnitLeaves m (after_call m p pc)
 after_call-leaves m p pc =
-    let behind = at_pc (settle m p) p (word (pc + 4)) in
-    let l = served-leaves behind p pc (call_of (process_of behind p).registers.general) in
+    let afterwards = at_pc (settle m p) p (word (pc + 4)) in
+    let l = served-leaves afterwards p pc (call_of (process_of afterwards p).registers.general) in
     record { time = inl (ap (λ t. t + 1) l.time); log = l.log }
 
 after_slot-leaves : (m : State) (p a pc target : ℕ) (o : Outcome) → Leaves m o → UnitLeaves m (after_slot m p a pc target o)

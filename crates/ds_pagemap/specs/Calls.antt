@@ -54,15 +54,15 @@ or_number m p (Ok s) = answered (with_pages m s) p 0
 or_number m p (Err number) = answered m p number
 
 -- the rule of an entry, 0 where there is none
-abbrev pub rule_of : Option Grant → ℕ
-rule_of None = 0
-rule_of (Some g) = g.rule
+abbrev pub rule_number_of : Option Grant → ℕ
+rule_number_of None = 0
+rule_number_of (Some g) = g.rule
 
 -- a refused give is logged too
 abbrev pub or_denied : State → ℕ → ℕ → ℕ → Result PageState ℕ → State
 or_denied m p pc address (Ok s) = answered (with_pages m s) p 0
 or_denied m p pc address (Err number) =
-    logged (answered m p number) (Denial m.time p pc Give address (Number (rule_of (entry_at m.memory.table p (page_address address)))) 8)
+    logged (answered m p number) (Denial m.time p pc Give address (Number (rule_number_of (entry_at m.memory.table p (page_address address)))) 8)
 
 -- the characters that wait on a process's line
 abbrev pub queue_of : State → ℕ → List ℕ

@@ -9,7 +9,7 @@ use Rattle.ds_policy.specs.Value.{PolicyValue, InputValue}
 use Rattle.ds_policy.specs.Pages.{Pages}
 use Rattle.ds_policy.specs.FirstTable.{table_of}
 use Rattle.ds_policy.specs.PolicyParts.{sources_of}
-use Rattle.ds_asm.specs.Images.{part_of}
+use Rattle.ds_asm.specs.Images.{page_of_image}
 use Rattle.ds_pagemap.specs.Machine.{State, Process}
 
 -- the image at a place
@@ -24,7 +24,7 @@ image_named names images name = image_at images (position (λ n. bytes_eq n name
 -- the bytes of a page with this source, or without one
 abbrev pub source_bytes : List (List ℕ) → List (List ℕ) → Option Source → List ℕ
 source_bytes names images None = replicate 4096 0
-source_bytes names images (Some s) = part_of (image_named names images s.name) s.part
+source_bytes names images (Some s) = page_of_image (image_named names images s.name) s.part
 
 -- the named pages, and room for the others
 abbrev pub first_pages : PolicyValue → List (List ℕ) → Pages

@@ -30,7 +30,7 @@ IsOneOrTwoLater old new = (new ≡ old + 1) ⊎ (new ≡ old + 2)
 pub record StoresOnly (old new : Pages) (page offset w : ℕ) : Type 0 where
   pub word : word_at (bytes_of new page) offset ≡ w
   pub before : (k : ℕ) → k < offset - offset % 4 → slice_index (bytes_of new page) k ≡ slice_index (bytes_of old page) k
-  pub behind : (k : ℕ) → offset - offset % 4 + 4 ≤ k → slice_index (bytes_of new page) k ≡ slice_index (bytes_of old page) k
+  pub afterwards : (k : ℕ) → offset - offset % 4 + 4 ≤ k → slice_index (bytes_of new page) k ≡ slice_index (bytes_of old page) k
   pub size : length (bytes_of new page) ≡ length (bytes_of old page)
   pub others : (q : ℕ) → q ≢ page → slice_index_or new q None ≡ slice_index_or old q None
 

@@ -7,9 +7,5 @@ pub mod Text
 pub mod First
 pub mod Inputs
 pub mod Laws
-pub mod Store
 pub mod Rows
-pub mod Guests
-pub mod ShareRows
-pub mod EndRows
-pub mod LawRows
+pub mod Inner

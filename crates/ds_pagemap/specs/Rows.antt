@@ -1,4 +1,8 @@
 -- Runs worked out: each row is a theorem about the definitions alone.
+pub mod EndRows
+pub mod Guests
+pub mod LawRows
+pub mod ShareRows
 use Rattle.std.specs.Prelude.{⊤, ◌≡◌, refl, codes, ℕ, Bool, true, false, ◌++◌, List, [], ◌∷◌, replicate, flat_map, Some, None, Result, Ok, Err}
 use Prim.Native.String.{String}
 use Rattle.ds_policy.specs.declared.grant.Right.{Right}
@@ -13,11 +17,11 @@ use Rattle.ds_policy.specs.Value.{PolicyValue}
 use Rattle.ds_word.specs.Digits.{digits_from}
 use Rattle.ds_policy.specs.InputLines.{timed_event_of}
 use Rattle.ds_policy.specs.InputText.{with_line as with_input_line, with_lines}
-use Rattle.ds_asm.specs.Images.{part_of}
+use Rattle.ds_asm.specs.Images.{page_of_image}
 use Rattle.ds_asm.specs.declared.fault.SourceFault.{SourceFault}
 use Rattle.ds_asm.specs.declared.fault.SourceFault.TheVariants.{Syntax, UnknownLabel, DoubleLabel, Range, TooLong}
 use Rattle.ds_asm.specs.Assembly.{assembled}
-use Rattle.ds_asm.specs.OnLiterals.{asm_on_literals}
+use Rattle.ds_asm.specs.Inner.OnLiterals.{asm_on_literals}
 use Rattle.ds_log.specs.declared.line.Line.{Line}
 use Rattle.ds_log.specs.declared.line.Line.TheVariants.{Denial, Refused}
 use Rattle.ds_log.specs.declared.line.Denied.TheVariants as denied
@@ -275,13 +279,13 @@ a_queue_takes_256_characters = refl
 
 -- Pages.
 
-pub a_part_past_the_end_is_zero : part_of (1 ∷ 2 ∷ []) 1 ≡ replicate 4096 0
+pub a_part_past_the_end_is_zero : page_of_image (1 ∷ 2 ∷ []) 1 ≡ replicate 4096 0
 a_part_past_the_end_is_zero = refl
 
-pub a_part_is_filled_up_with_zeros : part_of (1 ∷ 2 ∷ []) 0 ≡ 1 ∷ 2 ∷ replicate 4094 0
+pub a_part_is_filled_up_with_zeros : page_of_image (1 ∷ 2 ∷ []) 0 ≡ 1 ∷ 2 ∷ replicate 4094 0
 a_part_is_filled_up_with_zeros = refl
 
-pub a_part_is_a_page_of_the_image : part_of (replicate 4096 1 ++ replicate 4096 2 ++ replicate 4096 3) 1 ≡ replicate 4096 2
+pub a_part_is_a_page_of_the_image : page_of_image (replicate 4096 1 ++ replicate 4096 2 ++ replicate 4096 3) 1 ≡ replicate 4096 2
 a_part_is_a_page_of_the_image = refl
 
 -- Inputs.

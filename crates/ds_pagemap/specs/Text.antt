@@ -5,5 +5,5 @@ use Rattle.ds_log.specs.Report.{report_text}
 use Rattle.ds_pagemap.specs.Machine.{State}
 
 -- what is written of a state: its consoles, its log and its time
-abbrev pub text_of : State → List ℕ
-text_of m = report_text m.consoles (length m.log) (flat_map line_text m.log) m.time
+abbrev pub state_text : State → List ℕ
+state_text m = report_text m.consoles (length m.log) (flat_map line_text m.log) m.time

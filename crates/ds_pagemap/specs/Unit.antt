@@ -106,8 +106,8 @@ after_slot m p unit pc target (Stopped stop) = parked m p unit pc stop
 -- the state after a call: the process stands after it, and the call is served
 abbrev pub after_call : State → ℕ → ℕ → State
 after_call m p pc =
-    let behind = at_pc (settle m p) p (word (pc + 4)) in
-    ticked 1 (served behind p pc (call_of (process_of behind p).registers.general))
+    let afterwards = at_pc (settle m p) p (word (pc + 4)) in
+    ticked 1 (served afterwards p pc (call_of (process_of afterwards p).registers.general))
 
 -- the outcome of the instruction at pc, in a state m
 abbrev pub after_instruction : State → ℕ → ℕ → Outcome → State

@@ -1,7 +1,7 @@
 //! A store on the bytes of a page.
 ghost use Rattle.std.specs.Prelude.{◌≡◌, length};
-ghost use Rattle.ds_policy.specs.FirstTable.{IsWithinPage};
-ghost use Rattle.ds_pagemap.specs.Store.{stored_where_allowed, is_allowed};
+ghost use Rattle.ds_policy.specs.Inner.FirstTable.{IsWithinPage};
+ghost use Rattle.ds_pagemap.specs.Inner.Store.{stored_where_allowed, is_allowed};
 
 use ds_policy::Verdict;
 

@@ -39,10 +39,10 @@ shrinks (q ∷ qs) zero (suc l) rest had has = has
 shrinks (q ∷ qs) (suc i) zero rest had has = has
 shrinks (q ∷ qs) (suc i) (suc l) rest had has = shrinks qs i l rest had has
 
-fewer : (waits before behind : Bool) → (behind ≡ true → before ≡ true) → (waits && before) ≡ false → (waits && behind) ≡ false
+fewer : (waits before afterwards : Bool) → (afterwards ≡ true → before ≡ true) → (waits && before) ≡ false → (waits && afterwards) ≡ false
 fewer true before true f e = sym (f refl) ∙ e
 fewer true before false f e = refl
-fewer false before behind f e = refl
+fewer false before afterwards f e = refl
 
 positive : (n : ℕ) → 0 < n → nat_lt 0 n ≡ true
 positive n above = grind (arith, nat_tests)

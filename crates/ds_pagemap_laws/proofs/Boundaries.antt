@@ -30,14 +30,14 @@ last_settles true m runner = rotated_settles m runner
 last_settles false m runner = refl
 
 -- what comes after the commands
-abbrev behind : Turn → ℕ → ℕ → List Character → State → State
-behind turn rate now characters m =
+abbrev afterwards : Turn → ℕ → ℕ → List Character → State → State
+afterwards turn rate now characters m =
     let typed = record m { queues = all_queued m.queues (take 64 characters) } in
     let awake = woken typed 1 (length typed.processes) in
     cond (has_passed rate turn.began now) (rotated awake turn.runner) awake
 
-behind_settles : (turn : Turn) (rate now : ℕ) (characters : List Character) (m : State) → all_settled (behind turn rate now characters m) ≡ behind turn rate now characters (all_settled m)
-behind_settles turn rate now characters m =
+past_settles : (turn : Turn) (rate now : ℕ) (characters : List Character) (m : State) → all_settled (afterwards turn rate now characters m) ≡ afterwards turn rate now characters (all_settled m)
+past_settles turn rate now characters m =
     let typed : State = record m { queues = all_queued m.queues (take 64 characters) } in
     let count : length (map settled_process m.processes) ≡ length m.processes = length-map m.processes settled_process in
     last_settles (has_passed rate turn.began now) (woken typed 1 (length typed.processes)) turn.runner
@@ -49,8 +49,8 @@ waits m = record m { memory = expired m.memory m.time; commands = filter (λ c. 
 
 after_settles : (turn : Turn) (m : State) → all_settled (boundary_after turn m) ≡ boundary_after turn (all_settled m)
 after_settles turn m =
-    behind_settles turn m.rate m.time (come m) (after_commands (waits m) (due m))
-    ∙ ap (behind turn m.rate m.time (come m)) (commands_settle (waits m) (due m))
+    past_settles turn m.rate m.time (come m) (after_commands (waits m) (due m))
+    ∙ ap (afterwards turn m.rate m.time (come m)) (commands_settle (waits m) (due m))
 
 owed_settles : (o : Option Turn) (m : State) → all_settled (owed_boundary o m) ≡ owed_boundary o (all_settled m)
 owed_settles None m = refl

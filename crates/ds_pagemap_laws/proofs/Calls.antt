@@ -168,10 +168,10 @@ call_settles m p = ap (λ (q : Process). call_of q.registers.general) (of_settle
 
 pub after_call_settles : (m : State) (p pc : ℕ) → all_settled (after_call m p pc) ≡ after_call (all_settled m) p pc
 after_call_settles m p pc =
-    let behind : State = at_pc (settle m p) p (word (pc + 4)) in
-    let settles : all_settled behind ≡ at_pc (settle (all_settled m) p) p (word (pc + 4)) =
+    let afterwards : State = at_pc (settle m p) p (word (pc + 4)) in
+    let settles : all_settled afterwards ≡ at_pc (settle (all_settled m) p) p (word (pc + 4)) =
     at_pc_settles (settle m p) p (word (pc + 4)) ∙ ap (λ (s : State). at_pc s p (word (pc + 4))) (settle_settles m p) in
     ap (ticked 1)
-    (served_settles behind p pc (call_of (process_of behind p).registers.general)
-    ∙ (ap (served (all_settled behind) p pc) (sym (call_settles behind p))
+    (served_settles afterwards p pc (call_of (process_of afterwards p).registers.general)
+    ∙ (ap (served (all_settled afterwards) p pc) (sym (call_settles afterwards p))
     ∙ ap (λ (s : State). served s p pc (call_of (process_of s p).registers.general)) settles))

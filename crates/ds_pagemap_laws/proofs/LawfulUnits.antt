@@ -156,8 +156,8 @@ after_slot_lawful m p unit pc target (Stopped stop) above k f = parked_lawful m 
 
 pub after_call_lawful : (m : State) (p pc : ℕ) → 0 < p → p ≤ length m.processes → IsLawful m → IsLawful (after_call m p pc)
 after_call_lawful m p pc above within k =
-    let behind = at_pc (settle m p) p (word (pc + 4)) in
-    ticked_lawful 1 _ (served_lawful behind p pc (call_of (process_of behind p).registers.general) above (still_within (settle m p) p p _ (still_within m p p _ within)) (at_pc_lawful (settle m p) p (word (pc + 4)) (settle_lawful m p k)))
+    let afterwards = at_pc (settle m p) p (word (pc + 4)) in
+    ticked_lawful 1 _ (served_lawful afterwards p pc (call_of (process_of afterwards p).registers.general) above (still_within (settle m p) p p _ (still_within m p p _ within)) (at_pc_lawful (settle m p) p (word (pc + 4)) (settle_lawful m p k)))
 
 after_lawful : (m : State) (p pc : ℕ) (o : Outcome) → 0 < p → p ≤ length m.processes → IsLawful m → IsLawfulOutcome m o → IsLawful (after_instruction m p pc o)
 after_lawful m p pc (Went t) above within k f = ticked_lawful 1 (at_pc t p (word (pc + 4))) (at_pc_lawful t p (word (pc + 4)) f.lawful)

@@ -27,8 +27,8 @@ loading = record {
 pub a_finished_load_leaves_what_was_loaded : slice_index (settled_process loading).registers.general 8 ≡ 65
 a_finished_load_leaves_what_was_loaded = refl
 
-pub no_load_is_late_behind_it : (settled_process loading).registers.late ≡ None
-no_load_is_late_behind_it = refl
+pub no_load_is_late_after_it : (settled_process loading).registers.late ≡ None
+no_load_is_late_after_it = refl
 
 pub no_load_is_late_however_it_stands : (s : Standing) → (settled_process (record loading { standing = s })).registers.late ≡ None
 no_load_is_late_however_it_stands Ready = refl

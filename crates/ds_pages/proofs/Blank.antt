@@ -4,13 +4,13 @@ use Rattle.std.specs.Prelude.{slice_get, slice_index}
 use Rattle.ds_operations.specs.declared.operation.OperationKind.TheVariants as kind
 use Rattle.ds_pages.specs.declared.does.Does.{Does}
 use Rattle.ds_pages.specs.declared.does.Does.TheVariants as does
-use Rattle.ds_pages.specs.declared.turn.Turn.{Turn}
-use Rattle.ds_pages.specs.declared.turn.Turn.TheVariants as turn
+use Rattle.ds_pages.specs.declared.turn.Stride.{Stride}
+use Rattle.ds_pages.specs.declared.turn.Stride.TheVariants as turn
 use Rattle.ds_pages.specs.declared.place.Place.{Place}
 use Rattle.ds_pages.specs.declared.places.Places.{Places}
-use Rattle.ds_pages.specs.Does.{is_known, is_branch}
-use Rattle.ds_pages.specs.Turn.{first_of, second_of}
-use Rattle.ds_pages.specs.Places.{does_in, turn_in, kind_in, does_at, turn_at, length_at, FitsAt}
+use Rattle.ds_pages.specs.Inner.Does.{is_known, is_branch}
+use Rattle.ds_pages.specs.Inner.Turn.{first_of, second_of}
+use Rattle.ds_pages.specs.Inner.Places.{does_in, turn_in, kind_in, does_at, turn_at, length_at, FitsAt}
 
 -- nothing is known of any place
 pub does_of_all : (n k : ℕ) (x : Place) → x.does ≡ does.Unknown → does_in (slice_get (replicate n x) k) ≡ does.Unknown
@@ -50,5 +50,5 @@ all_blank p unknown still nothing k inside = record {
   short = rw (nothing k) (omega arith);
   target = λ b. absurd (unknown_is_no_branch (unknown k) b);
   first = ap first_of (still k) ∙ sym (unknown k);
-  second = ap (λ (t : Turn). second_of t (does_at p (k + 1))) (still k);
+  second = ap (λ (t : Stride). second_of t (does_at p (k + 1))) (still k);
 }

@@ -5,7 +5,7 @@ use Rattle.ds_operations.specs.declared.operation.OperationKind.{OperationKind}
 use Rattle.ds_operations.specs.declared.operation.OperationKind.TheVariants as kind
 use Rattle.ds_pages.specs.declared.does.Does.{Does}
 use Rattle.ds_pages.specs.declared.does.Does.TheVariants as does
-use Rattle.ds_pages.specs.Does.{single, steps, is_known, is_end, is_branch, is_load, has_slot}
+use Rattle.ds_pages.specs.Inner.Does.{single, steps, is_known, is_end, is_branch, is_load, has_slot}
 
 -- an operation of any kind is known
 pub single_known : (k : OperationKind) → is_known (single k) ≡ true

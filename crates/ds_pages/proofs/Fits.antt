@@ -3,10 +3,10 @@ use Rattle.std.proofs.Common.{◌≡◌, ◌≢◌, ℕ, ◌+◌, ◌/◌, ◌<�
 use Rattle.std.proofs.lemmas.Bool.{cases_eq}
 use Rattle.ds_pages.specs.declared.does.Does.{Does}
 use Rattle.ds_pages.specs.declared.places.Places.{Places}
-use Rattle.ds_pages.specs.declared.turn.Turn.{Turn}
-use Rattle.ds_pages.specs.Does.{steps, is_known, is_branch, has_slot}
-use Rattle.ds_pages.specs.Turn.{first_of, second_of}
-use Rattle.ds_pages.specs.Places.{Fields, does_at, turn_at, fields_at, length_at, target_at, done_by, done_at, offset_of, known_at, FitsAt, SameAt}
+use Rattle.ds_pages.specs.declared.turn.Stride.{Stride}
+use Rattle.ds_pages.specs.Inner.Does.{steps, is_known, is_branch, has_slot}
+use Rattle.ds_pages.specs.Inner.Turn.{first_of, second_of}
+use Rattle.ds_pages.specs.Inner.Places.{Fields, does_at, turn_at, fields_at, length_at, target_at, done_by, done_at, offset_of, known_at, FitsAt, SameAt}
 use Rattle.ds_pages.proofs.Done.{steps_short}
 
 -- what is to be done follows from the operations
@@ -14,8 +14,8 @@ pub same_done : (p q : Places) (i : ℕ) → fields_at q i ≡ fields_at p i →
 same_done p q i here next = ap (λ (f : Fields). done_by i f (fields_at q (i + 1))) here ∙ ap (λ (f : Fields). done_by i (fields_at p i) f) next
 
 -- what a turn does at the next place, where neither has changed
-second_as : (t u : Turn) (d e : Does) → u ≡ t → e ≡ d → second_of t d ≡ d → second_of u e ≡ e
-second_as t u d e turn next second = ap (λ (x : Turn). second_of x e) turn ∙ (ap (λ (x : Does). second_of t x) next ∙ (second ∙ sym next))
+second_as : (t u : Stride) (d e : Does) → u ≡ t → e ≡ d → second_of t d ≡ d → second_of u e ≡ e
+second_as t u d e turn next second = ap (λ (x : Stride). second_of x e) turn ∙ (ap (λ (x : Does). second_of t x) next ∙ (second ∙ sym next))
 
 -- a place fits still where neither it nor the next has changed but in what is done there
 pub still_fits : (p q : Places) (i : ℕ) → FitsAt p i → fields_at q i ≡ fields_at p i → fields_at q (i + 1) ≡ fields_at p (i + 1) →

@@ -5,8 +5,8 @@ use Rattle.std.proofs.lemmas.Grind.{common_steps}
 use Rattle.ds_operations.specs.declared.operation.OperationKind.{OperationKind}
 use Rattle.ds_operations.specs.declared.operation.OperationKind.TheVariants as kind
 use Rattle.ds_pages.specs.declared.places.Places.{Places}
-use Rattle.ds_pages.specs.Does.{single, is_known, is_branch, is_load}
-use Rattle.ds_pages.specs.Places.{Fields, does_at, fields_at, target_at, stays, offset_of, FitsAt}
+use Rattle.ds_pages.specs.Inner.Does.{single, is_known, is_branch, is_load}
+use Rattle.ds_pages.specs.Inner.Places.{Fields, does_at, fields_at, target_at, stays, offset_of, FitsAt}
 use Rattle.ds_pages.proofs.Done.{single_known, load_known, branch_known, kind_named, load_free, branch_stays}
 
 apart_first : (a b c : ℕ) → ((a == b) || (a == c)) ≡ false → a ≢ b

@@ -6,12 +6,12 @@ use Rattle.std.proofs.lemmas.List.{get_or-set_other}
 use Rattle.ds_isa.specs.declared.instr.Instr.{Instr}
 use Rattle.ds_isa.specs.Instruction.{instruction_of}
 use Rattle.ds_operations.specs.declared.operation.Operation.{Operation}
-use Rattle.ds_operations.specs.Does.{MeansAs}
+use Rattle.ds_operations.specs.Inner.Does.{MeansAs}
 use Rattle.ds_operations.specs.declared.operation.OperationKind.TheVariants as kind
 use Rattle.ds_pages.specs.declared.places.Places.{Places}
-use Rattle.ds_pages.specs.Does.{has_slot}
-use Rattle.ds_pages.specs.Places.{Fields, fields_of, does_at, fields_at, known_at, FitsAt}
-use Rattle.ds_pages.specs.Page.{PageState, knows, Means, IsPage}
+use Rattle.ds_pages.specs.Inner.Does.{has_slot}
+use Rattle.ds_pages.specs.Inner.Places.{Fields, fields_of, does_at, fields_at, known_at, FitsAt}
+use Rattle.ds_pages.specs.Inner.Page.{KnownPageState, knows, Means, IsPage}
 
 -- an operation that is none means anything
 pub none_means : (f : Fields) (w : ℕ) → f.kind ≡ kind.Other → Means f (instruction_of w)
@@ -66,7 +66,7 @@ pub fields_kept : (p q : Places) (i : ℕ) → known_at p i ≡ false → ((k : 
 fields_kept p q i unknown fields k known = fields k (unknown_elsewhere p i k unknown known)
 
 -- what was known is known after one more is
-pub known_kept : (s t : PageState) (i : ℕ) → knows t i ≡ true → ((k : ℕ) → k ≢ i → knows t k ≡ knows s k) → (k : ℕ) → knows s k ≡ true → knows t k ≡ true
+pub known_kept : (s t : KnownPageState) (i : ℕ) → knows t i ≡ true → ((k : ℕ) → k ≢ i → knows t k ≡ knows s k) → (k : ℕ) → knows s k ≡ true → knows t k ≡ true
 known_kept s t i here others k known = elim (cases_eq k i) [
   | inl same ↦ subst (λ (n : ℕ). knows t n ≡ true) (sym same) here
   | inr other ↦ others k other ∙ known
@@ -81,7 +81,7 @@ and_not_false false b e = refl
 and_not_false true b e = ap not e
 
 -- where the place before has a slot, it is forgotten with that slot
-pub branch_forgotten : (s m t : PageState) (i k : ℕ) → k + 1 ≡ i → has_slot (does_at s.places (i - 1)) ≡ true → knows m (i - 1) ≡ false →
+pub branch_forgotten : (s m t : KnownPageState) (i k : ℕ) → k + 1 ≡ i → has_slot (does_at s.places (i - 1)) ≡ true → knows m (i - 1) ≡ false →
     ((k : ℕ) → k ≢ i → knows t k ≡ knows m k) → knows t k ≡ (knows s k && not (has_slot (does_at s.places k)))
 branch_forgotten s m t i k next slot gone others =
     let here : i - 1 ≡ k = omega arith in
@@ -89,7 +89,7 @@ branch_forgotten s m t i k next slot gone others =
     ∙ sym (and_not_true (knows s k) (has_slot (does_at s.places k)) (subst (λ (n : ℕ). has_slot (does_at s.places n) ≡ true) here slot)))
 
 -- where it has none, it stays
-pub others_stay : (s t : PageState) (i k : ℕ) → k + 1 ≡ i → has_slot (does_at s.places (i - 1)) ≡ false →
+pub others_stay : (s t : KnownPageState) (i k : ℕ) → k + 1 ≡ i → has_slot (does_at s.places (i - 1)) ≡ false →
     ((k : ℕ) → k ≢ i → knows t k ≡ knows s k) → knows t k ≡ (knows s k && not (has_slot (does_at s.places k)))
 others_stay s t i k next none others =
     let here : i - 1 ≡ k = omega arith in

@@ -1,5 +1,2 @@
-pub mod Does
-pub mod Turn
-pub mod Places
-pub mod Page
-pub mod Worked
+pub mod Inner
+pub mod Rows

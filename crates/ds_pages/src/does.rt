@@ -1,6 +1,6 @@
 //! What is done at a place of a page.
 ghost use Rattle.std.specs.Prelude.{◌≡◌, ◌<◌};
-ghost use Rattle.ds_pages.specs.Does.{single, is_known, is_end, is_branch, is_jump, is_load, has_slot, steps};
+ghost use Rattle.ds_pages.specs.Inner.Does.{single, is_known, is_end, is_branch, is_jump, is_load, has_slot, steps};
 
 use ds_operations::OperationKind;
 

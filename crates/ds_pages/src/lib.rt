@@ -10,4 +10,4 @@ mod turn;
 
 pub use does::Does;
 pub use page::Page;
-pub use turn::Turn;
+pub use turn::Stride;

@@ -1,16 +1,16 @@
 //! A page of code: its words, and what is known of each.
 ghost use Rattle.std.specs.Prelude.{◌≡◌, ◌≢◌, ℕ, ◌+◌, ◌*◌, ◌<◌, ◌≤◌, true, false, not, ◌&&◌, slice_set};
 ghost use Rattle.ds_isa.specs.Instruction.{instruction_of};
-ghost use Rattle.ds_operations.specs.Does.{MeansAs};
-ghost use Rattle.ds_pages.specs.Does.{single, steps, is_known, is_branch, has_slot, is_load};
-ghost use Rattle.ds_pages.specs.Turn.{first_of, second_of};
-ghost use Rattle.ds_pages.specs.Places.{does_at, fields_at, length_at, target_at, done_at, offset_of, fields_of, IsFreeAt};
-ghost use Rattle.ds_pages.specs.Page.{word_at, knows};
+ghost use Rattle.ds_operations.specs.Inner.Does.{MeansAs};
+ghost use Rattle.ds_pages.specs.Inner.Does.{single, steps, is_known, is_branch, has_slot, is_load};
+ghost use Rattle.ds_pages.specs.Inner.Turn.{first_of, second_of};
+ghost use Rattle.ds_pages.specs.Inner.Places.{does_at, fields_at, length_at, target_at, done_at, offset_of, fields_of, IsFreeAt};
+ghost use Rattle.ds_pages.specs.Inner.Page.{word_at, knows};
 
 use crate::does::Does;
 use crate::place::{NOWHERE, Place};
 use crate::places::{PLACES, Places};
-use crate::turn::Turn;
+use crate::turn::Stride;
 use ds_isa::decode;
 use ds_operations::{Operation, OperationKind};
 use std::marker::Model;
@@ -25,9 +25,9 @@ pub struct Page {
 }
 
 impl Model for Page {
-    ghost use Rattle.ds_pages.specs.Page.{PageState, IsPage};
+    ghost use Rattle.ds_pages.specs.Inner.Page.{KnownPageState, IsPage};
 
-    ghost Value = { PageState };
+    ghost Value = { KnownPageState };
 
     ghost view = { λ p. record { words = p.words; places = p.places } };
 
@@ -72,7 +72,7 @@ impl Page {
     /// What is done in one turn of a run that stands at a place, or at the one after the last: the
     /// operation there, or that and the next one.
     #[inline(always)]
-    pub fn turn(&self, i: usize) -> Turn
+    pub fn turn(&self, i: usize) -> Stride
         requires { i ≤ 1024 }
         ensures first { first_of result ≡ does_at self.now.places i }
         ensures second { second_of result (does_at self.now.places (i + 1))

@@ -1,8 +1,8 @@
 //! A place of a page: what is done there.
 
 ghost use Rattle.std.specs.Prelude.{◌≡◌, true};
-ghost use Rattle.ds_pages.specs.Does.{is_known};
-ghost use Rattle.ds_pages.specs.Places.{fields_in, fields_of};
+ghost use Rattle.ds_pages.specs.Inner.Does.{is_known};
+ghost use Rattle.ds_pages.specs.Inner.Places.{fields_in, fields_of};
 
 use crate::does::Does;
 use ds_operations::{Operation, Register, Target};

@@ -1,12 +1,12 @@
 //! What is known of each place of a page.
 ghost use Rattle.std.specs.Prelude.{◌≡◌, ◌≢◌, ℕ, ◌+◌, ◌/◌, ◌<◌, ◌≤◌, true, false};
-ghost use Rattle.ds_pages.specs.Does.{steps, is_known, is_branch, has_slot};
-ghost use Rattle.ds_pages.specs.Turn.{first_of, second_of};
-ghost use Rattle.ds_pages.specs.Places.{does_at, turn_at, fields_at, fields_in, fields_of, length_at, target_at, done_at, is_left, stays, offset_of, known_at, FitsAt, SameAt};
+ghost use Rattle.ds_pages.specs.Inner.Does.{steps, is_known, is_branch, has_slot};
+ghost use Rattle.ds_pages.specs.Inner.Turn.{first_of, second_of};
+ghost use Rattle.ds_pages.specs.Inner.Places.{does_at, turn_at, fields_at, fields_in, fields_of, length_at, target_at, done_at, is_left, stays, offset_of, known_at, FitsAt, SameAt};
 
 use crate::does::Does;
 use crate::place::{NOWHERE, Place};
-use crate::turn::Turn;
+use crate::turn::Stride;
 use ds_operations::{Operation, OperationKind};
 use ds_word::wrapping_sum;
 
@@ -18,7 +18,7 @@ pub(crate) const PLACES: usize = 1024;
 #[derive(Drop)]
 pub(crate) struct Places {
     places: [Place; 1025],
-    turns: [Turn; 1025],
+    turns: [Stride; 1025],
     kinds: [OperationKind; 1025],
     lengths: [u16; 1025],
     targets: [u16; PLACES],
@@ -42,7 +42,7 @@ impl Places {
     {
         Places {
             places: [NOWHERE; 1025],
-            turns: [Turn::Unknown; 1025],
+            turns: [Stride::Unknown; 1025],
             kinds: [OperationKind::Other; 1025],
             lengths: [0; 1025],
             targets: [0; PLACES],
@@ -60,7 +60,7 @@ impl Places {
 
     /// What is done at a place in one turn.
     #[inline(always)]
-    pub fn turn(&self, i: usize) -> Turn
+    pub fn turn(&self, i: usize) -> Stride
         requires { i ≤ 1024 }
         ensures { result ≡ turn_at self.now i }
     {
@@ -174,7 +174,7 @@ impl Places {
         ensures length { length_at self.new i ≡ length }
         ensures target { target_at self.new i ≡ target }
     {
-        self.turns[i] = Turn::of(does, self.does(i + 1));
+        self.turns[i] = Stride::of(does, self.does(i + 1));
         let place = &mut self.places[i];
         place.does = does;
         self.lengths[i] = length;

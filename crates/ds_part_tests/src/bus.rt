@@ -226,8 +226,8 @@ fn keeps_words(mut memory: Memory) -> bool {
     let mut bus = Bus::new(memory);
     bus.memory().put_word(0x44, 0x9abc_def0);
     let put_before = read(&mut bus, 0x40) == Ok(0x1234_5678);
-    let put_behind = read(&mut bus, 0x44) == Ok(0x9abc_def0);
-    put_before && put_behind && write(&mut bus, 0x48, 7) && bus.memory().word(0x48) == 7
+    let put_after = read(&mut bus, 0x44) == Ok(0x9abc_def0);
+    put_before && put_after && write(&mut bus, 0x48, 7) && bus.memory().word(0x48) == 7
 }
 
 /// Whether a word has a byte and a half that are put into it, and is read by such.

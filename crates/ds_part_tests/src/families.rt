@@ -121,7 +121,7 @@ fn has_shares(table: &Table, share: Option<Grant>, next: Option<Grant>, last: Op
 }
 
 /// The number of a refusal, or 0.
-fn number_of(outcome: Result<(), NoGrant>) -> u32 {
+fn refusal_number(outcome: Result<(), NoGrant>) -> u32 {
     match outcome {
         Ok(()) => 0,
         Err(refused) => refused.number(),
@@ -200,7 +200,7 @@ fn is_cut(alloc: Global) -> bool {
     };
     let cut = table.cut(2, 0x2000).is_ok();
     let gone = has_top(&table) && has_shares(&table, None, None, None);
-    let refused = number_of(table.cut(2, 0x2000)) == 14;
+    let refused = refusal_number(table.cut(2, 0x2000)) == 14;
     cut && gone && refused && has_top(&table)
 }
 

@@ -1,7 +1,7 @@
 //! The address map, through both buffers.
 ghost use Rattle.std.specs.Prelude.{◌≡◌};
 
-use ds_amap::{Access, Fault, Mode, Physical, translate};
+use ds_amap::{Fault, Kind, Mode, Physical, translate};
 use ds_tlb::{Entry, Indexed, Lookaside, Tlb};
 
 /// Page 00400 of address space 1 in frame 00007, read only.
@@ -46,89 +46,65 @@ fn filled<L: Lookaside>() -> Option<L>
 }
 
 /// An address, what is done there by whom in which address space, and the answer.
-type Row = (u32, Access, Mode, u8, Result<Physical, Fault>);
+type Row = (u32, Kind, Mode, u8, Result<Physical, Fault>);
 
 const ROWS: [Row; 14] = [
     (
         0x0040_0123,
-        Access::Fetch,
+        Kind::Fetch,
         Mode::User,
         1,
         Ok(Physical(0x7123)),
     ),
     (
         0x0040_0123,
-        Access::Load,
+        Kind::Load,
         Mode::Kernel,
         1,
         Ok(Physical(0x7123)),
     ),
     (
         0x0040_0123,
-        Access::Store,
+        Kind::Store,
         Mode::User,
         1,
         Err(Fault::Modified),
     ),
-    (
-        0x0040_1000,
-        Access::Store,
-        Mode::User,
-        1,
-        Err(Fault::Invalid),
-    ),
-    (0x0040_0123, Access::Load, Mode::User, 2, Err(Fault::Refill)),
-    (0x7fff_ffff, Access::Load, Mode::User, 1, Err(Fault::Refill)),
-    (
-        0x8000_0000,
-        Access::Load,
-        Mode::User,
-        1,
-        Err(Fault::Address),
-    ),
-    (0x8000_0000, Access::Fetch, Mode::Kernel, 1, Ok(Physical(0))),
+    (0x0040_1000, Kind::Store, Mode::User, 1, Err(Fault::Invalid)),
+    (0x0040_0123, Kind::Load, Mode::User, 2, Err(Fault::Refill)),
+    (0x7fff_ffff, Kind::Load, Mode::User, 1, Err(Fault::Refill)),
+    (0x8000_0000, Kind::Load, Mode::User, 1, Err(Fault::Address)),
+    (0x8000_0000, Kind::Fetch, Mode::Kernel, 1, Ok(Physical(0))),
     (
         0x9fff_ffff,
-        Access::Load,
+        Kind::Load,
         Mode::Kernel,
         1,
         Ok(Physical(0x1fff_ffff)),
     ),
     (
         0xa000_0080,
-        Access::Store,
+        Kind::Store,
         Mode::Kernel,
         1,
         Ok(Physical(0x80)),
     ),
     (
         0xbfff_ffff,
-        Access::Store,
+        Kind::Store,
         Mode::Kernel,
         1,
         Ok(Physical(0x1fff_ffff)),
     ),
-    (
-        0xc000_0000,
-        Access::Load,
-        Mode::Kernel,
-        1,
-        Err(Fault::Refill),
-    ),
+    (0xc000_0000, Kind::Load, Mode::Kernel, 1, Err(Fault::Refill)),
     (
         0xc000_1040,
-        Access::Store,
+        Kind::Store,
         Mode::Kernel,
         7,
         Ok(Physical(0xffff_f040)),
     ),
-    (
-        0xc000_1040,
-        Access::Load,
-        Mode::User,
-        7,
-        Err(Fault::Address),
-    ),
+    (0xc000_1040, Kind::Load, Mode::User, 7, Err(Fault::Address)),
 ];
 
 /// Whether a buffer with these pages answers each row.
@@ -208,7 +184,7 @@ const BOUNDS: [(u32, bool, u32); 8] = [
 ];
 
 /// Whether a bound is translated for an access in both modes.
-fn answers_bound<L: Lookaside>(tlb: &L, bound: (u32, bool, u32), access: Access) -> bool {
+fn answers_bound<L: Lookaside>(tlb: &L, bound: (u32, bool, u32), access: Kind) -> bool {
     let (addr, free, place) = bound;
     let found = Ok(Physical(place));
     let of_user = if free { found } else { Err(Fault::Address) };
@@ -227,9 +203,9 @@ fn answers_bounds<L: Lookaside>() -> bool
     let mut right = true;
     for bound in BOUNDS {
         right = right
-            && answers_bound(&tlb, bound, Access::Fetch)
-            && answers_bound(&tlb, bound, Access::Load)
-            && answers_bound(&tlb, bound, Access::Store);
+            && answers_bound(&tlb, bound, Kind::Fetch)
+            && answers_bound(&tlb, bound, Kind::Load)
+            && answers_bound(&tlb, bound, Kind::Store);
     }
     right
 }

@@ -4,7 +4,8 @@ use Rattle.std.proofs.lemmas.Bool.Decides.{nat_tests}
 use Rattle.toml.specs.Data.{Data, string, integer, float, boolean, datetime, array, table, Items, no_items, item, Members, get_member, as_array}
 use Rattle.ds_word.specs.ResultBinding.{◌>>=◌}
 use Rattle.ds_word.proofs.ResultBinding.{bind_ok}
-use Rattle.ds_policy.specs.Refusal.{or_else, check, told_as, IsUnread, IsRead}
+use Rattle.ds_policy.specs.Refusal.{or_else, check, told_as}
+use Rattle.ds_policy.specs.Inner.Refusal.{IsUnread, IsRead}
 use Rattle.ds_policy.specs.declared.unread.Unread.{Unread}
 use Rattle.ds_policy.specs.declared.unread.Unread.TheVariants.{Reason, Memory}
 use Rattle.ds_policy.specs.Document.{number_in, number_at, item_count, items_between, items_if}

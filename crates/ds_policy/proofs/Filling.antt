@@ -11,7 +11,8 @@ use Rattle.ds_policy.specs.declared.policy.PolicyRule.{PolicyRule}
 use Rattle.ds_policy.specs.Pages.{Table, entries_of, put}
 use Rattle.std.specs.List.{All}
 use Rattle.ds_policy.specs.PolicyFacts.{IsGoodRule, HasFewRules}
-use Rattle.ds_policy.specs.FirstTable.{granted_by, with_rule, with_rules, HasRoom, AreWithin}
+use Rattle.ds_policy.specs.FirstTable.{granted_by, with_rule, with_rules}
+use Rattle.ds_policy.specs.Inner.FirstTable.{HasRoom, AreWithin}
 
 -- an entry put in is one more at most
 pub length_put : (es : List Entry) (a : ℕ) (g : Grant) → length (put es a g) ≤ length es + 1

@@ -25,10 +25,11 @@ use Rattle.ds_policy.specs.PolicyParts.{page_named}
 use Rattle.ds_word.specs.Digits.{digit_of, digits_from}
 use Rattle.ds_word.specs.ResultBinding.{◌>>=◌}
 use Rattle.ds_word.proofs.ResultBinding.{bind_ok}
-use Rattle.ds_policy.specs.InputNumbers.{decimal_of, bytes_of}
-use Rattle.ds_policy.specs.InputLines.{words_of, line_of, right_of, place_of, granted, given, grant_of, entry_in, process_in, keys_of, command_of, event_in, timed_event_of}
+use Rattle.ds_policy.specs.InputNumbers.{decimal_of, written_bytes}
+use Rattle.ds_policy.specs.InputLines.{words_of, console_line_of, right_of, entry_place_of, grant_command, grant_with_give, grant_command_of, entry_in, process_in, keys_of, command_of, event_in, timed_event_of}
 use Rattle.ds_policy.specs.InputText.{Said, nothing_said, characters_of, with_event, follows, order_cause, with_timed, is_skipped, with_words, reason_at, with_line, with_lines, lines_of, input_in, read_input, input_of}
-use Rattle.ds_policy.specs.InputFacts.{has_time, comes_at, IsGoodCommand, AreGoodCommands, IsGoodCharacter, AreNumbered, IsGoodInput}
+use Rattle.ds_policy.specs.InputFacts.{has_time, comes_at, IsGoodCommand, AreGoodCommands}
+use Rattle.ds_policy.specs.Inner.InputFacts.{IsGoodCharacter, AreNumbered, IsGoodInput}
 use Rattle.ds_policy.specs.Value.{InputValue}
 use Rattle.ds_policy.proofs.Binds.{bind_some, bind_else, bind_check, told_ok, both}
 use Rattle.ds_policy.proofs.GoodPolicy.{page_within}
@@ -55,7 +56,7 @@ abbrev pub IsGoodFor : ℕ → Event → Type 0
 IsGoodFor pages (Order c) = IsGoodCommand pages c
 IsGoodFor pages (Input line keys) = line ≤ 3
 
-line_within : (word : List ℕ) (line : ℕ) → line_of word ≡ Some line → line ≤ 3
+line_within : (word : List ℕ) (line : ℕ) → console_line_of word ≡ Some line → line ≤ 3
 line_within [] line h = cc
 line_within (c ∷ []) line h = elim (cases_Bool (nat_le 48 c && nat_le c 51)) [
   | inl fits ↦
@@ -72,8 +73,8 @@ unfolding keys_of
 keys_good pages [] e h = cc
 keys_good pages (l ∷ []) e h = cc
 keys_good pages (l ∷ digits ∷ []) e h =
-    let (line, h1, a) = bind_else (line_of l) BadLine _ e h in
-    let (keys, h2, b) = bind_else (bytes_of digits) BadBytes _ e a in
+    let (line, h1, a) = bind_else (console_line_of l) BadLine _ e h in
+    let (keys, h2, b) = bind_else (written_bytes digits) BadBytes _ e a in
     let same : Input line keys ≡ e = cc in
     subst (IsGoodFor pages) same (line_within l line h1)
 keys_good pages (l ∷ digits ∷ more ∷ rest) e h = cc
@@ -87,25 +88,25 @@ right_given word right h = elim (cases_Bool (bytes_eq word (codes "read"))) [
   ]
 ]
 
-granted_good : (pages : List PolicyPage) (p a name r : List ℕ) (give : Bool) (c : Command) → granted pages p a name r give ≡ Ok c → IsGoodCommand (length pages) c
-unfolding granted
+granted_good : (pages : List PolicyPage) (p a name r : List ℕ) (give : Bool) (c : Command) → grant_command pages p a name r give ≡ Ok c → IsGoodCommand (length pages) c
+unfolding grant_command
 granted_good pages p a name r give c h =
-    let (place, h1, i) = bind_ok (place_of p a) _ c h in
+    let (place, h1, i) = bind_ok (entry_place_of p a) _ c h in
     let (page, h2, j) = bind_else (page_named pages name) UnknownPage _ c i in
     let (right, h3, k) = bind_else (right_of r) BadRight _ c j in
     let same : Grant place.process place.address page right give ≡ c = cc in
     subst (IsGoodCommand (length pages)) same (page_within pages name page h2, right_given r right h3)
 
-given_good : (pages : List PolicyPage) (p a name r word : List ℕ) (c : Command) → given pages p a name r word ≡ Ok c → IsGoodCommand (length pages) c
-unfolding given
+given_good : (pages : List PolicyPage) (p a name r word : List ℕ) (c : Command) → grant_with_give pages p a name r word ≡ Ok c → IsGoodCommand (length pages) c
+unfolding grant_with_give
 given_good pages p a name r word c h =
-    let (d, h1, i) = bind_ok (granted pages p a name r true) _ c h in
+    let (d, h1, i) = bind_ok (grant_command pages p a name r true) _ c h in
     let (known, j) = bind_check (bytes_eq word (codes "give")) BadGive _ c i in
     let same : d ≡ c = cc in
     subst (IsGoodCommand (length pages)) same (granted_good pages p a name r true d h1)
 
-grant_good : (pages : List PolicyPage) (words : List (List ℕ)) (c : Command) → grant_of pages words ≡ Ok c → IsGoodCommand (length pages) c
-unfolding grant_of
+grant_good : (pages : List PolicyPage) (words : List (List ℕ)) (c : Command) → grant_command_of pages words ≡ Ok c → IsGoodCommand (length pages) c
+unfolding grant_command_of
 grant_good pages [] c h = cc
 grant_good pages (p ∷ []) c h = cc
 grant_good pages (p ∷ a ∷ []) c h = cc

@@ -20,14 +20,14 @@ use Rattle.ds_policy.specs.declared.cause.RuleCause.{RuleCause}
 use Rattle.ds_word.proofs.ResultBinding.{bind_ok}
 use Rattle.ds_policy.specs.Grants.{is_some_right, region, count_distinct}
 use Rattle.ds_policy.specs.Document.{has_only, number_in, number_at, text_at}
-use Rattle.ds_policy.specs.PolicyParts.{process_of, is_name, is_source_name, source_of, page_of, new_page, right_named, page_named, flag_of, until_of, may_end, grant_of, has_same_name, regions_of, rule_of, has_same_place, beside, new_rule}
+use Rattle.ds_policy.specs.PolicyParts.{policy_process_of, is_page_name, is_source_name, source_of, page_of, new_page, right_named, page_named, flag_of, until_of, may_end, grant_of, has_same_name, regions_of, rule_of, has_same_place, beside, new_rule}
 use Rattle.ds_policy.specs.PolicyText.{processes_from, pages_from, rules_from}
 use Rattle.ds_policy.specs.PolicyFacts.{IsGoodProcess, IsGoodSource, IsGoodPage, IsGoodRule, AreGoodPages, AreGoodRules, HasFewRules, HasFewRegions}
 use Rattle.ds_policy.proofs.DistinctCounts.{count_last}
 use Rattle.ds_policy.proofs.Binds.{bind_else, bind_check, not_true, number_in_range, number_at_range, each_keeps}
 
-pub process_good : (d : Data) (p : PolicyProcess) → process_of d ≡ Ok p → IsGoodProcess p
-unfolding process_of
+pub process_good : (d : Data) (p : PolicyProcess) → policy_process_of d ≡ Ok p → IsGoodProcess p
+unfolding policy_process_of
 process_good d p h =
     let (ms, h1, a) = bind_else (as_table d) _ _ p h in
     let (known, b) = bind_check (has_only (codes "start" ∷ codes "line" ∷ []) ms) _ _ p a in
@@ -55,7 +55,7 @@ page_good d p h =
     let (ms, h1, a) = bind_else (as_table d) _ _ p h in
     let (known, b) = bind_check (has_only (codes "name" ∷ codes "source" ∷ codes "part" ∷ []) ms) _ _ p a in
     let (name, h2, c) = bind_else (text_at (codes "name") ms) _ _ p b in
-    let (good, e) = bind_check (is_name name) _ _ p c in
+    let (good, e) = bind_check (is_page_name name) _ _ p c in
     let (source, h4, q) = bind_ok (source_of ms) _ p e in
     subst (λ o. IfOk o IsGoodPage) q (record { name = good; source = source_good ms source h4 })
 
@@ -98,7 +98,7 @@ pages_good ds pages e =
 -- the processes of a policy
 pub processes_good : (ds : Items) (processes : List PolicyProcess) → processes_from ds ≡ Ok processes → All IsGoodProcess processes
 processes_good ds processes e =
-    each_keeps (λ before d. process_of d) (λ n cause. reason.Process n cause) (All IsGoodProcess)
+    each_keeps (λ before d. policy_process_of d) (λ n cause. reason.Process n cause) (All IsGoodProcess)
     (λ before d p good is. All-push IsGoodProcess before p good (process_good d p is)) [] ds processes (λ k d h. absurd (omega arith)) e
 
 pub page_within : (pages : List PolicyPage) (name : List ℕ) (n : ℕ) → page_named pages name ≡ Some n → n < length pages

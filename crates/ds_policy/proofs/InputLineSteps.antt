@@ -10,7 +10,7 @@ use Rattle.ds_policy.specs.declared.policy.PolicyPage.{PolicyPage}
 use Rattle.ds_word.specs.ResultBinding.{◌>>=◌}
 use Rattle.ds_policy.specs.declared.events.cause.InputReason.{InputReason}
 use Rattle.ds_policy.specs.declared.unread.Unread.{Unread}
-use Rattle.ds_policy.specs.Refusal.{IsUnread}
+use Rattle.ds_policy.specs.Inner.Refusal.{IsUnread}
 use Rattle.ds_policy.specs.InputText.{Said, with_line, with_lines, lines_of}
 use Rattle.ds_policy.proofs.Binds.{unread_then}
 
@@ -35,7 +35,7 @@ lines_first pages s n text =
 pub lines_good : (pages : List PolicyPage) (s next : Said) (n : ℕ) (text line rest : List ℕ)
     → line ≡ before_first is_line_feed text → rest ≡ after_first is_line_feed text → with_line pages s n line ≡ Ok next
     → with_lines pages s n (lines_of text) ≡ with_lines pages next (n + 1) (lines_of rest)
-lines_good pages s next n text line rest first behind good = rw (lines_first pages s n text, ← first, ← behind, good)
+lines_good pages s next n text line rest first afterwards good = rw (lines_first pages s n text, ← first, ← afterwards, good)
 
 pub lines_bad : (pages : List PolicyPage) (s : Said) (n : ℕ) (text line : List ℕ) (e : Unread InputReason)
     → line ≡ before_first is_line_feed text → IsUnread e (with_line pages s n line)
@@ -50,4 +50,4 @@ lines_end pages s n (b ∷ text) none = absurd (omega arith)
 
 -- what follows the first line is shorter
 pub rest_within : (n m : ℕ) (text rest : List ℕ) → rest ≡ after_first is_line_feed text → 0 < length text → n + length text ≤ m → n + 1 + length rest ≤ m
-rest_within n m text rest behind some within = rw behind (omega (arith, length-drop (position_or_len is_line_feed text + 1) text))
+rest_within n m text rest afterwards some within = rw afterwards (omega (arith, length-drop (position_or_len is_line_feed text + 1) text))

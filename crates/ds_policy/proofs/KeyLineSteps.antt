@@ -4,7 +4,7 @@ use Rattle.std.proofs.lemmas.List.{drop_more, drop_all, drop_at, take_all, take-
 use Rattle.ds_policy.specs.declared.command.Character.{Character}
 use Rattle.ds_policy.specs.declared.events.characters.KeyLine.{KeyLine}
 use Rattle.ds_policy.specs.InputText.{characters_of}
-use Rattle.ds_policy.specs.KeyLines.{characters_from, AreKeyLines}
+use Rattle.ds_policy.specs.Inner.KeyLines.{characters_from, AreKeyLines}
 
 -- a byte of a line as a character
 abbrev pub character : KeyLine → ℕ → Character

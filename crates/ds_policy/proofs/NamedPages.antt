@@ -10,7 +10,7 @@ use Rattle.ds_policy.specs.declared.cause.PageCause.TheVariants.{SameName}
 use Rattle.ds_policy.specs.declared.policy.PolicyPage.{PolicyPage}
 use Rattle.ds_policy.specs.Document.{is_among}
 use Rattle.ds_policy.specs.PolicyParts.{page_named, page_of, new_page}
-use Rattle.ds_policy.specs.Names.{held_number, AreNamed}
+use Rattle.ds_policy.specs.Inner.Names.{held_number, AreNamed}
 use Rattle.ds_policy.specs.declared.names.Names.{Names}
 
 one_more : (k : ℕ) → 1 + k ≡ suc k

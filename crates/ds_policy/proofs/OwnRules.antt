@@ -9,7 +9,7 @@ use Rattle.std.proofs.lemmas.List.Sums.{length-filter}
 use Rattle.ds_policy.specs.Grants.{region}
 use Rattle.ds_policy.specs.declared.policy.PolicyRule.{PolicyRule}
 use Rattle.ds_policy.specs.PolicyParts.{has_same_place, regions_of, beside}
-use Rattle.ds_policy.specs.OwnRules.{own_rules, AreByProcess}
+use Rattle.ds_policy.specs.Inner.OwnRules.{own_rules, AreByProcess}
 
 any_own : (r : PolicyRule) (rules : List PolicyRule) → list_any (λ (s : PolicyRule). has_same_place s r) (own_rules r.process rules) ≡ list_any (λ (s : PolicyRule). has_same_place s r) rules
 any_own r [] = refl

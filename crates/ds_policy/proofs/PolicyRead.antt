@@ -8,7 +8,7 @@ use Rattle.ds_policy.specs.declared.policy.PolicyRule.{PolicyRule}
 use Rattle.ds_policy.specs.declared.cause.PolicyReason.TheVariants as reason
 use Rattle.ds_policy.specs.Refusal.{refusal_of}
 use Rattle.ds_policy.specs.Document.{document, has_only, number_in, number_at, items_between, items_if}
-use Rattle.ds_policy.specs.PolicyParts.{is_zero, rate_of, process_of, new_page, new_rule}
+use Rattle.ds_policy.specs.PolicyParts.{is_zero, rate_of, policy_process_of, new_page, new_rule}
 use Rattle.ds_policy.specs.PolicyText.{processes_from, pages_from, processes_of, pages_of, rules_of, rules_from, says, read_policy, policy_of}
 use Rattle.ds_policy.specs.PolicyFacts.{IsGoodProcess, AreGoodPages, AreGoodRules, IsGoodPolicy}
 use Rattle.ds_policy.specs.Value.{PolicyValue}
@@ -22,7 +22,7 @@ processes_said found processes h =
     let (ds, h1, h2) = bind_else (option_and_then (items_between 1 100) found) _ processes_from processes h in
     let (d, h3, h4) = bind_some found (items_between 1 100) ds h1 in
     let within = items_within 1 100 d ds h4 in
-    let count = each_counts (λ before d. process_of d) (λ n cause. reason.Process n cause) [] ds processes h2 in
+    let count = each_counts (λ before d. policy_process_of d) (λ n cause. reason.Process n cause) [] ds processes h2 in
     ((omega (arith, within, count), omega (arith, within, count)), processes_good ds processes h2)
 
 pages_said : (frames : ℕ) (found : Option Data) (pages : List PolicyPage) → pages_of frames found ≡ Ok pages → (length pages ≤ frames) × AreGoodPages pages

@@ -9,7 +9,8 @@ use Rattle.std.proofs.lemmas.Slice.Eq.{bytes_eq-Decides}
 use Rattle.ds_policy.specs.declared.policy.PolicyPage.{PolicyPage}
 use Rattle.ds_policy.specs.declared.policy.Source.{Source}
 use Rattle.ds_policy.specs.Document.{is_among}
-use Rattle.ds_policy.specs.PolicyParts.{with_source, with_name, first_mentions, source_names, sources_of}
+use Rattle.ds_policy.specs.PolicyParts.{with_name, first_mentions, source_names, sources_of}
+use Rattle.ds_policy.specs.Inner.PolicyParts.{with_source}
 
 abbrev pub sources_from : List (List ℕ) → List PolicyPage → List (List ℕ)
 sources_from known [] = known

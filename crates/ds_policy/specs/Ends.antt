@@ -1,5 +1,5 @@
 -- Rights that end by themselves: when one has ended, and what is left of its entry.
-use Rattle.std.specs.Prelude.{◌≡◌, ◌<◌, ℕ, Bool, false, ◌&&◌, nat_le, if◌then◌else◌, List, [], ◌∷◌, map, Option, Some, None}
+use Rattle.std.specs.Prelude.{◌≡◌, ◌<◌, ℕ, Bool, false, ◌&&◌, nat_le, if◌then◌else◌, map, Option, Some, None}
 use Rattle.std.specs.List.{list_any}
 use Rattle.ds_policy.specs.declared.grant.Entry.{Entry}
 use Rattle.ds_policy.specs.Pages.{Table}
@@ -37,8 +37,3 @@ expired s time =
 -- no right in the table ends before a time
 abbrev pub NoneEndsBefore : ℕ → Table → Type 0
 NoneEndsBefore time table = (t : ℕ) → t < time → has_some_expired t table ≡ false
-
--- the first of a process's entries whose right has ended by a time
-abbrev pub first_expired : ℕ → List Entry → Option Entry
-first_expired time [] = None
-first_expired time (e ∷ rest) = if has_expired time e then Some e else first_expired time rest

@@ -13,7 +13,7 @@ use Rattle.ds_policy.specs.declared.grant.EntryPlace.{EntryPlace}
 use Rattle.ds_policy.specs.declared.grant.Right.{Right}
 use Rattle.ds_policy.specs.declared.grant.Right.TheVariants.{Read, Write}
 use Rattle.ds_policy.specs.declared.policy.PolicyPage.{PolicyPage}
-use Rattle.ds_policy.specs.InputNumbers.{decimal_of, address_of, bytes_of}
+use Rattle.ds_policy.specs.InputNumbers.{decimal_of, address_of, written_bytes}
 use Rattle.ds_policy.specs.PolicyParts.{page_named}
 use Rattle.ds_policy.specs.Refusal.{or_else, check}
 
@@ -22,60 +22,60 @@ abbrev pub words_of : List ℕ → List (List ℕ)
 words_of line = slice_split (λ b. b == 32) line
 
 -- the process number that a word writes
-abbrev pub process_of : List ℕ → Option ℕ
-process_of word = decimal_of (2 ^ 32 - 1) word
+abbrev pub process_number_of : List ℕ → Option ℕ
+process_number_of word = decimal_of (2 ^ 32 - 1) word
 
 -- one digit from 0 to 3
-abbrev pub line_of : List ℕ → Option ℕ
-line_of (c ∷ []) = if nat_le 48 c && nat_le c 51 then Some (c - 48) else None
-line_of _ = None
+abbrev pub console_line_of : List ℕ → Option ℕ
+console_line_of (c ∷ []) = if nat_le 48 c && nat_le c 51 then Some (c - 48) else None
+console_line_of _ = None
 
 -- the right that a command's word names
 abbrev pub right_of : List ℕ → Option Right
 right_of word = if bytes_eq word (codes "read") then Some Read else if bytes_eq word (codes "write") then Some Write else None
 
 -- a process and an address
-abbrev pub place_of : List ℕ → List ℕ → Result EntryPlace InputCause
-place_of p a = do
-  process ← or_else (process_of p) BadProcess
+abbrev pub entry_place_of : List ℕ → List ℕ → Result EntryPlace InputCause
+entry_place_of p a = do
+  process ← or_else (process_number_of p) BadProcess
   address ← or_else (address_of a) BadAddress
   Ok (record { process = process; address = address })
 
 -- a grant of a page, which may be given on
-unfoldable pub granted : List PolicyPage → List ℕ → List ℕ → List ℕ → List ℕ → Bool → Result Command InputCause
-granted pages p a name r give = do
-  place ← place_of p a
+unfoldable pub grant_command : List PolicyPage → List ℕ → List ℕ → List ℕ → List ℕ → Bool → Result Command InputCause
+grant_command pages p a name r give = do
+  place ← entry_place_of p a
   page ← or_else (page_named pages name) UnknownPage
   right ← or_else (right_of r) BadRight
   Ok (Grant place.process place.address page right give)
 
 -- a grant with a word after its right
-unfoldable pub given : List PolicyPage → List ℕ → List ℕ → List ℕ → List ℕ → List ℕ → Result Command InputCause
-given pages p a name r word = do
-  command ← granted pages p a name r true
+unfoldable pub grant_with_give : List PolicyPage → List ℕ → List ℕ → List ℕ → List ℕ → List ℕ → Result Command InputCause
+grant_with_give pages p a name r word = do
+  command ← grant_command pages p a name r true
   known ← check (bytes_eq word (codes "give")) BadGive
   Ok command
 
 -- of the words after `grant`: a process, an address, a page and a right, and perhaps `give`
-unfoldable pub grant_of : List PolicyPage → List (List ℕ) → Result Command InputCause
-grant_of pages (p ∷ a ∷ name ∷ r ∷ []) = granted pages p a name r false
-grant_of pages (p ∷ a ∷ name ∷ r ∷ give ∷ []) = given pages p a name r give
-grant_of pages _ = Err WordCount
+unfoldable pub grant_command_of : List PolicyPage → List (List ℕ) → Result Command InputCause
+grant_command_of pages (p ∷ a ∷ name ∷ r ∷ []) = grant_command pages p a name r false
+grant_command_of pages (p ∷ a ∷ name ∷ r ∷ give ∷ []) = grant_with_give pages p a name r give
+grant_command_of pages _ = Err WordCount
 
 -- of the words after a verb about an entry
 abbrev pub entry_in : List (List ℕ) → Result EntryPlace InputCause
-entry_in (p ∷ a ∷ []) = place_of p a
+entry_in (p ∷ a ∷ []) = entry_place_of p a
 entry_in _ = Err WordCount
 
 -- of the words after a verb about a process
 abbrev pub process_in : List (List ℕ) → Result ℕ InputCause
-process_in (p ∷ []) = or_else (process_of p) BadProcess
+process_in (p ∷ []) = or_else (process_number_of p) BadProcess
 process_in _ = Err WordCount
 
 -- the command of a verb and the words after it
 unfoldable pub command_of : List PolicyPage → List ℕ → List (List ℕ) → Result Command InputCause
 command_of pages verb words =
-    if bytes_eq verb (codes "grant") then grant_of pages words
+    if bytes_eq verb (codes "grant") then grant_command_of pages words
     else if bytes_eq verb (codes "narrow") then entry_in words >>= (λ e. Ok (Narrow e.process e.address))
     else if bytes_eq verb (codes "revoke") then entry_in words >>= (λ e. Ok (Revoke e.process e.address))
     else if bytes_eq verb (codes "drop") then entry_in words >>= (λ e. Ok (Drop e.process e.address))
@@ -86,8 +86,8 @@ command_of pages verb words =
 -- the characters of the words after `key`
 unfoldable pub keys_of : List (List ℕ) → Result Event InputCause
 keys_of (l ∷ digits ∷ []) = do
-  line ← or_else (line_of l) BadLine
-  keys ← or_else (bytes_of digits) BadBytes
+  line ← or_else (console_line_of l) BadLine
+  keys ← or_else (written_bytes digits) BadBytes
   Ok (Input line keys)
 keys_of _ = Err WordCount
 

@@ -21,5 +21,5 @@ pairs_of (a ∷ []) = None
 pairs_of (a ∷ b ∷ rest) = option_and_then (λ byte. option_map (λ bytes. byte ∷ bytes) (pairs_of rest)) (pair_of a b)
 
 -- 1 to 256 bytes
-abbrev pub bytes_of : List ℕ → Option (List ℕ)
-bytes_of word = if nat_le 2 (length word) && nat_le (length word) 512 then pairs_of word else None
+abbrev pub written_bytes : List ℕ → Option (List ℕ)
+written_bytes word = if nat_le 2 (length word) && nat_le (length word) 512 then pairs_of word else None

@@ -1,5 +1,5 @@
 -- What an input says: its commands and characters, or the first line that is wrong.
-use Rattle.std.specs.Prelude.{◌≡◌, ℕ, ◌+◌, Bool, ◌&&◌, ◌||◌, ◌==◌, nat_le, nat_lt, slice_index, List, [], ◌∷◌, ◌++◌, length, map, unwrap_or, Result, Ok, Err, if◌then◌else◌}
+use Rattle.std.specs.Prelude.{ℕ, ◌+◌, Bool, ◌&&◌, ◌||◌, ◌==◌, nat_le, nat_lt, slice_index, List, [], ◌∷◌, ◌++◌, length, map, unwrap_or, Result, Ok, Err, if◌then◌else◌}
 use Rattle.std.specs.List.{slice_split}
 use Rattle.ds_word.specs.ResultBinding.{◌>>=◌}
 use Rattle.ds_policy.specs.declared.command.Command.{Command}
@@ -11,8 +11,6 @@ use Rattle.ds_policy.specs.declared.events.cause.InputReason.{InputReason}
 use Rattle.ds_policy.specs.declared.events.event.Event.{Event}
 use Rattle.ds_policy.specs.declared.events.event.Event.TheVariants.{Order, Input}
 use Rattle.ds_policy.specs.declared.events.event.TimedEvent.{TimedEvent}
-use Rattle.ds_policy.specs.declared.events.fault.EventsFault.{EventsFault}
-use Rattle.ds_policy.specs.declared.events.fault.EventsFault.TheVariants.{InputFault, Memory}
 use Rattle.ds_policy.specs.declared.policy.PolicyPage.{PolicyPage}
 use Rattle.ds_policy.specs.Value.{InputValue}
 use Rattle.ds_policy.specs.Refusal.{told_as}
@@ -95,14 +93,3 @@ read_input pages text = with_lines pages nothing_said 1 (lines_of text) >>= (λ 
 -- what a text says, or the number of its first wrong line
 abbrev pub input_of : List PolicyPage → List ℕ → Result InputValue ℕ
 input_of pages text = told_as (λ (r : InputReason). r.line) (read_input pages text)
-
--- the reading answered what the text says, unless memory ran out
-abbrev pub Gives : Result InputValue EventsFault → Result InputValue ℕ → Type 0
-Gives (Ok input) said = said ≡ Ok input
-Gives (Err (InputFault line)) said = said ≡ Err line
-Gives (Err Memory) said = Unit {0}
-
--- the number of a refusal
-abbrev pub number_of : EventsFault → ℕ
-number_of (InputFault line) = 20
-number_of Memory = 25

@@ -3,7 +3,7 @@ use Rattle.std.specs.Prelude.{◌≡◌, ◌≤◌, ◌<◌, ◌==◌, ◌%◌, 
 use Rattle.std.specs.List.{All, IsDistinct}
 use Rattle.ds_policy.specs.Grants.{is_some_right, count_distinct}
 use Rattle.ds_policy.specs.Value.{PolicyValue}
-use Rattle.ds_policy.specs.PolicyParts.{is_name, is_source_name, regions_of, has_same_name, has_same_place}
+use Rattle.ds_policy.specs.PolicyParts.{is_page_name, is_source_name, regions_of, has_same_name, has_same_place}
 use Rattle.ds_policy.specs.declared.policy.PolicyProcess.{PolicyProcess}
 use Rattle.ds_policy.specs.declared.policy.Source.{Source}
 use Rattle.ds_policy.specs.declared.policy.PolicyPage.{PolicyPage}
@@ -21,7 +21,7 @@ pub record IsGoodSource (s : Source) : Type 0 where
 
 -- a good name, and a good source if there is one
 pub record IsGoodPage (p : PolicyPage) : Type 0 where
-  pub name : is_name p.name ≡ true
+  pub name : is_page_name p.name ≡ true
   pub source : IfSome p.source IsGoodSource
 
 -- a rule over so many processes and pages

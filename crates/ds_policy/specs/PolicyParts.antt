@@ -1,9 +1,9 @@
 -- What the parts of a policy's document mean.
-use Rattle.std.specs.Prelude.{codes, ℕ, pos, Bool, false, not, ◌&&◌, ◌||◌, ◌==◌, ◌%◌, ◌^◌, ◌-◌, nat_le, nat_lt, bytes_eq, List, [], ◌∷◌, ◌++◌, length, map, filter, Option, Some, None, is_some, count_by, position, option_map, Result, Ok, Err, if◌then◌else◌}
+use Rattle.std.specs.Prelude.{codes, ℕ, pos, Bool, false, not, ◌&&◌, ◌||◌, ◌==◌, ◌%◌, ◌^◌, ◌-◌, nat_le, nat_lt, bytes_eq, List, [], ◌∷◌, length, map, filter, Option, Some, None, is_some, count_by, position, option_map, Result, Ok, Err, if◌then◌else◌}
 use Rattle.std.specs.List.{list_any, list_all}
 use Rattle.ds_word.specs.ResultBinding.{◌>>=◌}
 use Rattle.toml.specs.Data.{Data, integer, Members, get_member, as_table, as_bool}
-use Rattle.ds_policy.specs.Document.{is_among, has_only, number_in, number_at, text_at}
+use Rattle.ds_policy.specs.Document.{has_only, number_in, number_at, text_at}
 use Rattle.ds_policy.specs.Refusal.{or_else, check}
 use Rattle.ds_policy.specs.Grants.{region, count_distinct}
 use Rattle.ds_policy.specs.declared.cause.ProcessCause.{ProcessCause}
@@ -20,8 +20,8 @@ use Rattle.ds_policy.specs.declared.grant.Right.{Right}
 use Rattle.ds_policy.specs.declared.grant.Right.TheVariants.{Nothing, Read, Write}
 
 -- a process of the policy
-unfoldable pub process_of : Data → Result PolicyProcess ProcessCause
-process_of d = do
+unfoldable pub policy_process_of : Data → Result PolicyProcess ProcessCause
+policy_process_of d = do
   ms ← or_else (as_table d) process.NotTable
   known ← check (has_only (codes "start" ∷ codes "line" ∷ []) ms) process.OtherKey
   start ← or_else (number_at (codes "start") 0 4294967295 ms) process.BadStart
@@ -43,8 +43,8 @@ abbrev pub is_name_byte : ℕ → Bool
 is_name_byte b = (nat_le 97 b && nat_le b 122) || (nat_le 48 b && nat_le b 57)
 
 -- the name of a page
-abbrev pub is_name : List ℕ → Bool
-is_name text = (nat_le 1 (length text) && nat_le (length text) 16) && list_all is_name_byte text
+abbrev pub is_page_name : List ℕ → Bool
+is_page_name text = (nat_le 1 (length text) && nat_le (length text) 16) && list_all is_name_byte text
 
 -- a letter, a digit, or one of `-./_`
 abbrev pub is_source_byte : ℕ → Bool
@@ -70,7 +70,7 @@ page_of d = do
   ms ← or_else (as_table d) page.NotTable
   known ← check (has_only (codes "name" ∷ codes "source" ∷ codes "part" ∷ []) ms) page.OtherKey
   name ← or_else (text_at (codes "name") ms) page.BadName
-  good ← check (is_name name) page.BadName
+  good ← check (is_page_name name) page.BadName
   source ← source_of ms
   Ok (record { name = name; source = source })
 
@@ -157,11 +157,6 @@ beside before r = do
 -- a rule beside those before it
 unfoldable pub new_rule : ℕ → ℕ → List PolicyPage → List PolicyRule → Data → Result PolicyRule RuleCause
 new_rule version processes pages before d = rule_of version processes pages d >>= beside before
-
--- the name of the source too, where it is new
-abbrev pub with_source : List (List ℕ) → Option Source → List (List ℕ)
-with_source names None = names
-with_source names (Some s) = if is_among names s.name then names else names ++ s.name ∷ []
 
 -- each text once, in the order of first mention
 abbrev pub first_mentions : List (List ℕ) → List (List ℕ)

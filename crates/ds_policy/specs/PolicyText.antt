@@ -4,7 +4,7 @@ use Rattle.toml.specs.Data.{Data, Items, no_items, item, Members, get_member}
 use Rattle.ds_word.specs.ResultBinding.{◌>>=◌}
 use Rattle.ds_policy.specs.Refusal.{PolicyRefusal, refusal_of, or_else, check, told_as}
 use Rattle.ds_policy.specs.Document.{document, has_only, number_at, items_between, items_if}
-use Rattle.ds_policy.specs.PolicyParts.{rate_of, process_of, new_page, new_rule}
+use Rattle.ds_policy.specs.PolicyParts.{rate_of, policy_process_of, new_page, new_rule}
 use Rattle.ds_policy.specs.Value.{PolicyValue}
 use Rattle.ds_policy.specs.declared.cause.PolicyReason.{PolicyReason}
 use Rattle.ds_policy.specs.declared.cause.PolicyReason.TheVariants as reason
@@ -19,7 +19,7 @@ each_of one tell before (item d ds) = told_as (tell (length before + 1)) (one be
 
 -- the processes of an array's items
 abbrev pub processes_from : Items → Result (List PolicyProcess) PolicyReason
-processes_from ds = each_of (λ before d. process_of d) (λ n cause. reason.Process n cause) [] ds
+processes_from ds = each_of (λ before d. policy_process_of d) (λ n cause. reason.Process n cause) [] ds
 
 -- 1 to 100 processes
 unfoldable pub processes_of : Option Data → Result (List PolicyProcess) PolicyReason

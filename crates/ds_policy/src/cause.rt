@@ -1,6 +1,7 @@
 //! What can be wrong with a policy.
 ghost use Rattle.std.specs.Prelude.{Err};
-ghost use Rattle.ds_policy.specs.Refusal.{Fails, refusal_of};
+ghost use Rattle.ds_policy.specs.Refusal.{refusal_of};
+ghost use Rattle.ds_policy.specs.Inner.Refusal.{Fails};
 ghost use Rattle.ds_policy.specs.Value.{PolicyValue};
 
 use crate::fault::PolicyFault;

@@ -1,7 +1,8 @@
 //! Rights that end by themselves.
 ghost use Rattle.std.specs.Prelude.{◌≡◌, ◌<◌, ◌≤◌, ℕ, length};
 ghost use Rattle.ds_policy.specs.Pages.{entries_of};
-ghost use Rattle.ds_policy.specs.Ends.{is_reached, has_some_expired, expired_table, first_expired};
+ghost use Rattle.ds_policy.specs.Ends.{is_reached, has_some_expired, expired_table};
+ghost use Rattle.ds_policy.specs.Inner.Ends.{first_expired};
 
 use crate::grant::Entry;
 use crate::row::Row;

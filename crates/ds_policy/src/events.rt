@@ -1,8 +1,9 @@
 //! What an input says: commands and characters, each with its time.
 ghost use Rattle.std.specs.Prelude.{◌≡◌, ◌==◌, ◌≤◌, length, drop, slice_get, IfOk};
 ghost use Rattle.std.specs.List.{position_or_len, before_first, after_first};
-ghost use Rattle.ds_policy.specs.Refusal.{IsRead};
-ghost use Rattle.ds_policy.specs.InputText.{Gives, input_of, read_input};
+ghost use Rattle.ds_policy.specs.Inner.Refusal.{IsRead};
+ghost use Rattle.ds_policy.specs.InputText.{input_of, read_input};
+ghost use Rattle.ds_policy.specs.Inner.InputText.{Gives};
 ghost use Rattle.ds_policy.specs.InputFacts.{AreGoodCommands};
 
 mod cause;
@@ -41,7 +42,7 @@ pub struct Events {
 
 impl Model for Events {
     ghost use Rattle.ds_policy.specs.Value.{InputValue};
-    ghost use Rattle.ds_policy.specs.InputFacts.{IsGoodInput};
+    ghost use Rattle.ds_policy.specs.Inner.InputFacts.{IsGoodInput};
 
     ghost Value = { InputValue };
 
@@ -54,7 +55,8 @@ impl Model for Events {
 impl Events {
     ghost use Rattle.std.specs.List.{All};
     ghost use Rattle.std.specs.List.Sorted.{IsNonDecreasingBy};
-    ghost use Rattle.ds_policy.specs.InputFacts.{has_time, comes_at, IsGoodCharacter, AreNumbered};
+    ghost use Rattle.ds_policy.specs.InputFacts.{has_time, comes_at};
+    ghost use Rattle.ds_policy.specs.Inner.InputFacts.{IsGoodCharacter, AreNumbered};
 
     /// What a text says, or its first line that is wrong.
     pub fn read(alloc: Global, text: &[u8], policy: &Policy) -> Result<Events, EventsFault>

@@ -1,6 +1,6 @@
 //! Why a policy is refused.
 ghost use Rattle.std.specs.Prelude.{◌≡◌};
-ghost use Rattle.ds_policy.specs.Refusal.{policy_fault_number};
+ghost use Rattle.ds_policy.specs.Inner.Refusal.{policy_fault_number};
 ghost use Rattle.ds_policy.specs.declared.fault.PolicyFault.TheVariants.{Memory};
 
 use std::alloc::{AllocError, AllocFailed};

@@ -1,6 +1,6 @@
 //! Names that are looked up.
 ghost use Rattle.std.specs.Prelude.{◌≡◌, ◌<◌, ℕ, List, length, bytes_eq, is_some, OnOk, IfOk, IfSome, Some, None, if◌then◌else◌};
-ghost use Rattle.ds_policy.specs.Names.{held_number};
+ghost use Rattle.ds_policy.specs.Inner.Names.{held_number};
 ghost use Rattle.ds_policy.specs.PolicyParts.{page_named};
 
 use crate::policy::PolicyPage;
@@ -25,7 +25,7 @@ impl<'a> Names<'a> {
     }
 
     /// The number of a name.
-    pub(crate) fn number_of(&self, name: &[u8]) -> Option<usize>
+    pub(crate) fn number_named(&self, name: &[u8]) -> Option<usize>
         ensures { result ≡ held_number self.now name.now }
     {
         self.numbers.get(name).copied()
@@ -46,7 +46,7 @@ impl<'a> Names<'a> {
             ≡ (if is_some (held_number self.old name.now) then held_number self.old other
             else if bytes_eq name.now other then Some number else held_number self.old other)) }
     {
-        if self.number_of(name).is_none() {
+        if self.number_named(name).is_none() {
             self.insert(name, number)?;
         }
         Ok(())
@@ -62,7 +62,7 @@ pub(crate) struct NamedPages<'a> {
 
 impl<'a> Model for NamedPages<'a> {
     ghost use Rattle.std.specs.Prelude.{◌≡◌, ℕ, List};
-    ghost use Rattle.ds_policy.specs.Names.{held_number};
+    ghost use Rattle.ds_policy.specs.Inner.Names.{held_number};
     ghost use Rattle.ds_policy.specs.PolicyParts.{page_named};
     ghost use Rattle.ds_policy.specs.declared.policy.PolicyPage.{PolicyPage};
 
@@ -88,10 +88,10 @@ impl<'a> NamedPages<'a> {
     }
 
     /// The number of the page of a name.
-    pub(crate) fn number_of(&self, name: &[u8]) -> Option<usize>
+    pub(crate) fn number_named(&self, name: &[u8]) -> Option<usize>
         ensures exact { result ≡ page_named self.now name.now }
         ensures within { IfSome result (λ i. i < length self.now) }
     {
-        self.names.number_of(name)
+        self.names.number_named(name)
     }
 }

@@ -1,7 +1,7 @@
 //! A policy from its text.
 ghost use Rattle.std.specs.Prelude.{◌≡◌};
 ghost use Rattle.toml.specs.View.{table_view};
-ghost use Rattle.ds_policy.specs.Refusal.{Gives, IsRead};
+ghost use Rattle.ds_policy.specs.Inner.Refusal.{Gives, IsRead};
 ghost use Rattle.ds_policy.specs.PolicyText.{says, read_policy, policy_of};
 
 mod document;
@@ -15,7 +15,7 @@ use crate::cause::PolicyReason;
 use crate::fault::PolicyFault;
 use crate::policy::Policy;
 use crate::unread::Unread;
-use document::{has_only, number_of, required, root, value_at};
+use document::{has_only, integer_at, required, root, value_at};
 use pages::pages_of;
 use processes::{processes_of, rate_of};
 pub use rules::count_regions;
@@ -57,8 +57,11 @@ impl Policy {
         if !has_only(table, KEYS.as_slice()) {
             return Err(Unread::Reason(PolicyReason::OtherKey));
         }
-        let version = required(number_of(table, "version", 1, 2), PolicyReason::BadVersion)?;
-        let frames = required(number_of(table, "frames", 1, 1024), PolicyReason::BadFrames)?;
+        let version = required(integer_at(table, "version", 1, 2), PolicyReason::BadVersion)?;
+        let frames = required(
+            integer_at(table, "frames", 1, 1024),
+            PolicyReason::BadFrames,
+        )?;
         let rate = required(rate_of(value_at(table, "rate")), PolicyReason::BadRate)?;
         let processes = processes_of(alloc, value_at(table, "process"))?;
         let pages = pages_of(alloc, frames, value_at(table, "page"))?;

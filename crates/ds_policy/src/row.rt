@@ -2,7 +2,7 @@
 ghost use Rattle.std.specs.Prelude.{◌≡◌, ◌==◌, ◌<◌, ◌≤◌, position, [], IsNone, length, filter, not, remove, MatchOption, None, Some, slice_index_or};
 ghost use Rattle.ds_policy.specs.Pages.{found, put};
 ghost use Rattle.ds_policy.specs.Grants.{no_grant};
-ghost use Rattle.ds_policy.specs.Marks.{no_entry_there};
+ghost use Rattle.ds_policy.specs.Inner.Marks.{no_entry_there};
 
 use crate::grant::{Entry, Grant, Right};
 use arrayvec::ArrayVec;

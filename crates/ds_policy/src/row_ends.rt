@@ -2,7 +2,8 @@
 ghost use Rattle.std.specs.Prelude.{◌≡◌, ◌||◌, ℕ, map};
 ghost use Rattle.std.specs.List.{list_any};
 ghost use Rattle.ds_policy.specs.Grants.{is_some_right};
-ghost use Rattle.ds_policy.specs.Ends.{is_reached, has_expired, expired_entry, first_expired};
+ghost use Rattle.ds_policy.specs.Ends.{is_reached, has_expired, expired_entry};
+ghost use Rattle.ds_policy.specs.Inner.Ends.{first_expired};
 
 use crate::grant::{Entry, Right, forbidden_by};
 use crate::row::Row;

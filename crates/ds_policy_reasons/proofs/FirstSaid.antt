@@ -3,8 +3,8 @@ use Rattle.std.proofs.Common.{◌≡◌, ◌∙◌, sym, ap, refl, ℕ, Bool, tr
 use Rattle.ds_asm.specs.Assembly.{lines_of}
 use Rattle.ds_asm.specs.Lines.{line_of}
 use Rattle.ds_source_reasons.specs.declared.reason.SyntaxReason.{SyntaxReason}
-use Rattle.ds_source_reasons.specs.Plain.{plain_reason}
-use Rattle.ds_source_reasons.specs.Reasons.{reason_of}
+use Rattle.ds_source_reasons.specs.Inner.Plain.{plain_reason}
+use Rattle.ds_source_reasons.specs.Inner.Reasons.{reason_of}
 use Rattle.ds_source_reasons.proofs.Exact.{reason_exact}
 use Rattle.ds_policy_reasons.specs.Kinds.{first_said, is_silent}
 

@@ -5,7 +5,6 @@ use Rattle.ds_asm.specs.Assembly.{lines_of}
 use Rattle.ds_asm.specs.Characters.{is_digit, is_letter, without_front_blanks}
 use Rattle.ds_source_reasons.specs.Likeness.{is_like}
 use Rattle.ds_source_reasons.specs.Reasons.{or_next}
-use Rattle.ds_policy_reasons.specs.declared.keys.OddKey as code
 use Rattle.ds_policy_reasons.specs.declared.keys.TheConstants as constants
 
 -- whether a key may hold a byte
@@ -36,10 +35,6 @@ pub record OddKey : Type 0 where
   pub name : List ℕ
   pub line : ℕ
   pub column : ℕ
-
--- the same of the code
-abbrev pub plain_odd : code.OddKey → OddKey
-plain_odd k = record { name = k.name.now; line = k.line; column = k.column }
 
 -- the key of line n, if it is none of a policy
 abbrev pub odd_one : ℕ → List ℕ → Option (List ℕ) → Option OddKey

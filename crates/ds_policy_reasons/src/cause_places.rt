@@ -11,8 +11,8 @@ pub fn cause_place(cause: InputCause, line: &[u8]) -> Option<usize>
     ensures { result ≡ cause_place cause line.now }
 {
     match cause {
-        InputCause::CarriageReturn => place_of(b'\r', line),
-        InputCause::Tab => place_of(b'\t', line),
+        InputCause::CarriageReturn => byte_place(b'\r', line),
+        InputCause::Tab => byte_place(b'\t', line),
         InputCause::BlankAtEnd => Some(line.len().saturating_sub(1)),
         InputCause::TwoBlanks => two_blanks_place(line),
         InputCause::BlankAtStart | InputCause::BadTime | InputCause::EarlierTime => Some(0),
@@ -26,7 +26,7 @@ pub fn cause_place(cause: InputCause, line: &[u8]) -> Option<usize>
     }
 }
 
-fn place_of(byte: u8, line: &[u8]) -> Option<usize>
+fn byte_place(byte: u8, line: &[u8]) -> Option<usize>
     ensures { result ≡ position (λ b. b == byte) line.now }
 {
     line.iter().position(|b| *b == byte)

@@ -2,7 +2,8 @@
 ghost use Rattle.std.specs.Prelude.{◌≡◌, ◌≤◌, ◌==◌, ◌++◌, OnOk, bytes_eq, length, option_map, take};
 ghost use Rattle.std.specs.List.{find, list_any, prefix_len};
 ghost use Rattle.ds_asm.specs.Assembly.{lines_of};
-ghost use Rattle.ds_policy_reasons.specs.Keys.{ends_key, first_odd, is_key, is_meant, is_of_key, is_plural, key_in, key_text, meant_key, meant_text, odd_key, odd_key_text, odd_one, plain_odd};
+ghost use Rattle.ds_policy_reasons.specs.Keys.{ends_key, first_odd, is_key, is_meant, is_of_key, is_plural, key_in, key_text, meant_key, meant_text, odd_key, odd_key_text, odd_one};
+ghost use Rattle.ds_policy_reasons.specs.Inner.Keys.{plain_odd};
 
 use ds_asm::{first_line, is_digit, is_letter, without_front_blanks};
 use ds_source_reasons::is_like;

@@ -10,7 +10,7 @@ use Rattle.std.proofs.lemmas.Bool.Decides.{Decides-eqb, nat_tests}
 use Rattle.std.proofs.lemmas.Map.Made.{IsDistinct-from_AllPairs}
 use Rattle.std.proofs.lemmas.Map.Views.{Contains-from_any}
 use Rattle.std.proofs.lemmas.Map.Steps.{length-le_from_distinct_below}
-use Rattle.ds_procs.specs.Queue.{IsQueue, without}
+use Rattle.ds_procs.specs.Inner.Queue.{IsQueue, without}
 
 -- each element differs from what isn't in the list
 All-apart : (xs : List ℕ) (n : ℕ) → ¬ Contains xs n → All (λ p. n ≢ p) xs

@@ -11,7 +11,7 @@ pub struct Queue {
 
 impl Model for Queue {
     ghost use Rattle.std.specs.Prelude.{ℕ, List};
-    ghost use Rattle.ds_procs.specs.Queue.{IsQueue};
+    ghost use Rattle.ds_procs.specs.Inner.Queue.{IsQueue};
 
     ghost Value = { List ℕ };
 
@@ -22,7 +22,7 @@ impl Model for Queue {
 
 impl Queue {
     ghost use Rattle.std.specs.Prelude.{◌≡◌, ◌<◌, ◌≤◌, [], ◌∷◌, ◌++◌, Contains, take, drop, slice_get};
-    ghost use Rattle.ds_procs.specs.Queue.{IsQueue, without};
+    ghost use Rattle.ds_procs.specs.Inner.Queue.{IsQueue, without};
 
     /// A queue with nobody in it.
     pub fn new() -> Self

@@ -13,7 +13,7 @@ use Rattle.ds_pagemap.specs.declared.turn.Turn.{Turn}
 use Rattle.ds_pagemap.specs.Machine.{State, Process, process_of, lives, is_parked, is_waiting, made_ready, first}
 use Rattle.ds_pagemap.specs.Calls.{or_logged, refuse_command, after_command, ended}
 use Rattle.ds_pagemap.specs.Boundary.{after_commands, all_queued, wakes, woken, has_passed, is_first, rotated, boundary_after, owed_boundary, boundary}
-use Rattle.ds_promise.specs.Twins.{AreTwins, IsTwin}
+use Rattle.ds_promise.specs.Inner.Twins.{AreTwins, IsTwin}
 use Rattle.ds_promise.proofs.Twins.{twin, same, via, logged_alike, ready_alike}
 use Rattle.ds_promise.proofs.Units.{lives_alike, pages_alike, ended_alike, queue_alike}
 

@@ -29,8 +29,8 @@ use Rattle.ds_pagemap.specs.Unit.{Outcome, Went, Branched, Called, Stopped, wher
 use Rattle.ds_pagemap.specs.Boundary.{boundary}
 use Rattle.ds_pagemap.specs.Run.{half_turn, goes_on, after}
 use Rattle.ds_pagemap.proofs.Units.{Leaves, leaves_instruction}
-use Rattle.ds_promise.specs.Stores.{page_at, Stored, UnitStores}
-use Rattle.ds_promise.specs.Lines.{refusal}
+use Rattle.ds_promise.specs.Stores.{live_page, Stored, UnitStores}
+use Rattle.ds_promise.specs.Lines.{refused_by}
 use Rattle.ds_promise.specs.Whole.{Lives, ArePagesWhole, HasWholePages, OneWordDiffers, HoldsBytes, IsCopied, UnitCopies, ChangesAsGranted, ChangesAsGrantedAlong}
 use Rattle.ds_promise.proofs.Granted.{allowed_holds, lets_something}
 use Rattle.ds_promise.proofs.Stores.{none_is_not_some, set_cases, fresh_is_free, IsGive, give_or_not, served_shrinks, boundary_pages, touched_memory, touched_owed, half_only_stores}
@@ -74,14 +74,14 @@ copied_there m p pc address receiver to s long there c =
       given = record { grant = c.grant; held = c.held; right = c.right; page = c.page; names = c.names; holds = c.holds };
       copy = fresh m.memory.pages;
       new = fresh_is_free m.memory.pages;
-      same = ap (λ (t : PageState). page_at t.pages (fresh m.memory.pages)) c.is ∙ set_same m.memory.pages (fresh m.memory.pages) (Some c.bytes) c.room;
+      same = ap (λ (t : PageState). live_page t.pages (fresh m.memory.pages)) c.is ∙ set_same m.memory.pages (fresh m.memory.pages) (Some c.bytes) c.room;
       entry = ap (λ (t : PageState). entry_at t.table receiver to) c.is ∙ put_found m.memory.table receiver to g l.0 (many (length m.memory.table) (length m.processes) receiver long l.1);
     }
   where
     many : (a b p : ℕ) → a ≡ b → p ≤ b → p ≤ a
     many a b p e f = omega (arith, e, f)
 
-copy_by : (m : State) (p pc address receiver to : ℕ) (r : Result PageState ℕ) → length m.memory.table ≡ length m.processes → refusal r ≡ None → OfDone (λ (s : PageState). IsGiven (lives m) m.memory s p address receiver to 3) r → IsCopied m (or_denied m p pc address r) p address receiver to
+copy_by : (m : State) (p pc address receiver to : ℕ) (r : Result PageState ℕ) → length m.memory.table ≡ length m.processes → refused_by r ≡ None → OfDone (λ (s : PageState). IsGiven (lives m) m.memory s p address receiver to 3) r → IsCopied m (or_denied m p pc address r) p address receiver to
 copy_by m p pc address receiver to (Ok s) long done g = copied_there m p pc address receiver to s long g.there (g.copies refl)
 copy_by m p pc address receiver to (Err number) long done g = absurd (none number done)
   where
@@ -89,7 +89,7 @@ copy_by m p pc address receiver to (Err number) long done g = absurd (none numbe
     none number e = cc
 
 -- a give by mode 3 that is not refused copies the bytes of the giver's page
-pub give_copies : (m : State) (p pc address receiver to : ℕ) → HasWholePages m → length m.memory.table ≡ length m.processes → refusal (give (lives m) m.memory p address receiver to 3) ≡ None
+pub give_copies : (m : State) (p pc address receiver to : ℕ) → HasWholePages m → length m.memory.table ≡ length m.processes → refused_by (give (lives m) m.memory p address receiver to 3) ≡ None
     → IsCopied m (served m p pc (call.Give address receiver to 3)) p address receiver to
 give_copies m p pc address receiver to k long done = copy_by m p pc address receiver to (give (lives m) m.memory p address receiver to 3) long done (give_whole (lives m) m.memory p address receiver to 3 k.memory)
 
@@ -107,15 +107,15 @@ one_list : (a b : List ℕ) → ◌≡◌ {A = Option (List ℕ)} (Some a) (Some
 one_list a b e = cc
 
 comes_by_give : (m : State) (p pc : ℕ) (c : Call) (g : IsGive c) (page : ℕ) (new : List ℕ) (r : Result PageState ℕ) → OfDone (λ (s : PageState). IsGiven (lives m) m.memory s p g.address g.receiver g.to g.mode) r
-    → page_at m.memory.pages page ≡ None → page_at (or_denied m p pc g.address r).memory.pages page ≡ Some new → CopyCall m p c new
+    → live_page m.memory.pages page ≡ None → live_page (or_denied m p pc g.address r).memory.pages page ≡ Some new → CopyCall m p c new
 comes_by_give m p pc c g page new (Err number) given none e = none_is_not_some new (sym none ∙ e)
 comes_by_give m p pc c g page new (Ok s) given none e = elim (cases_eq g.mode 3) [
-  | inr other ↦ none_is_not_some new (sym none ∙ (ap (λ (ps : Pages). page_at ps page) (sym (given.others other)) ∙ e))
+  | inr other ↦ none_is_not_some new (sym none ∙ (ap (λ (ps : Pages). live_page ps page) (sym (given.others other)) ∙ e))
   | inl third ↦ by_copy third (given.copies third)
 ]
   where
     by_copy : g.mode ≡ 3 → IsCopyOf m.memory s p g.address g.receiver g.to → CopyCall m p c new
-    by_copy third k = elim (set_cases m.memory.pages (fresh m.memory.pages) page (Some k.bytes) new (ap (λ (t : PageState). page_at t.pages page) (sym k.is) ∙ e)) [
+    by_copy third k = elim (set_cases m.memory.pages (fresh m.memory.pages) page (Some k.bytes) new (ap (λ (t : PageState). live_page t.pages page) (sym k.is) ∙ e)) [
       | inl before ↦ none_is_not_some new (sym none ∙ before)
       | inr put ↦ record {
         address = g.address;
@@ -126,18 +126,18 @@ comes_by_give m p pc c g page new (Ok s) given none e = elim (cases_eq g.mode 3)
       }
     ]
 
-comes_by_call : (m : State) (p pc : ℕ) (c : Call) → HasWholePages m → (page : ℕ) (new : List ℕ) → page_at m.memory.pages page ≡ None → page_at (served m p pc c).memory.pages page ≡ Some new → CopyCall m p c new
+comes_by_call : (m : State) (p pc : ℕ) (c : Call) → HasWholePages m → (page : ℕ) (new : List ℕ) → live_page m.memory.pages page ≡ None → live_page (served m p pc c).memory.pages page ≡ Some new → CopyCall m p c new
 comes_by_call m p pc c k page new none e = elim (give_or_not c) [
   | inl nothing ↦ none_is_not_some new (sym none ∙ served_shrinks m p pc c nothing page new e)
   | inr g ↦ comes_by_give m p pc c g page new (give (lives m) m.memory p g.address g.receiver g.to g.mode) (give_whole (lives m) m.memory p g.address g.receiver g.to g.mode k.memory) none
-      (ap (λ (x : Call). page_at (served m p pc x).memory.pages page) (sym g.is) ∙ e)
+      (ap (λ (x : Call). live_page (served m p pc x).memory.pages page) (sym g.is) ∙ e)
 ]
 
 -- What an instruction brings.
 
 -- a page that lives after it lived before
 abbrev LivedBefore : State → State → Type 0
-LivedBefore m t = (page : ℕ) (new : List ℕ) → page_at t.memory.pages page ≡ Some new → Lives m.memory.pages page
+LivedBefore m t = (page : ℕ) (new : List ℕ) → live_page t.memory.pages page ≡ Some new → Lives m.memory.pages page
 
 abbrev OutcomeLived : State → Outcome → Type 0
 OutcomeLived m (Went t) = LivedBefore m t
@@ -155,7 +155,7 @@ stored_lived m p size address at offset value k allowed page new e = elim (set_c
   | inr put ↦
       let h = allowed_holds m.memory.table p Store size address at offset allowed in
       let l = k.granted p _ h.grant h.held (lets_something h.grant.right Store h.right) in
-      (l.lives.0, ap (page_at m.memory.pages) (put.0 ∙ one_number at l.page (sym h.names ∙ l.names)) ∙ l.lives.1)
+      (l.lives.0, ap (live_page m.memory.pages) (put.0 ∙ one_number at l.page (sym h.names ∙ l.names)) ∙ l.lives.1)
 ]
   where
     one_number : (a b : ℕ) → ◌≡◌ {A = Option ℕ} (Some a) (Some b) → a ≡ b
@@ -183,14 +183,14 @@ slot_lived m p a pc target (Stopped stop) k = λ page new e. (new, e)
 -- Units.
 
 -- a page that comes to live is copied by a call
-comes_by_unit : (m : State) (p pc : ℕ) (o : Outcome) → HasWholePages m → OutcomeLived m o → Leaves m o → (page : ℕ) (new : List ℕ) → page_at m.memory.pages page ≡ None → page_at (after_instruction m p pc o).memory.pages page ≡ Some new
+comes_by_unit : (m : State) (p pc : ℕ) (o : Outcome) → HasWholePages m → OutcomeLived m o → Leaves m o → (page : ℕ) (new : List ℕ) → live_page m.memory.pages page ≡ None → live_page (after_instruction m p pc o).memory.pages page ≡ Some new
     → (o ≡ Called) × CopyCall m p (call_of (process_of m p).registers.general) new
 comes_by_unit m p pc (Went t) k l leaves page new none e = let live = l page new e in none_is_not_some live.0 (sym none ∙ live.1)
 comes_by_unit m p pc (Branched t target) k l leaves page new none e =
     let slot = word (pc + 4) in
     let w : ArePagesWhole t.memory = subst ArePagesWhole (sym leaves.1) k.memory in
     let live = slot_lived t p pc slot target (instruction t p slot) (instruction_lived t p slot w) page new e in
-    none_is_not_some live.0 (sym none ∙ (ap (λ (s : PageState). page_at s.pages page) (sym leaves.1) ∙ live.1))
+    none_is_not_some live.0 (sym none ∙ (ap (λ (s : PageState). live_page s.pages page) (sym leaves.1) ∙ live.1))
 comes_by_unit m p pc Called k l leaves page new none e =
     let next = at_pc (settle m p) p (word (pc + 4)) in
     let c = comes_by_call next p pc (call_of (process_of next p).registers.general) (record { memory = k.memory; commands = k.commands }) page new none e in (
@@ -205,22 +205,22 @@ comes_by_unit m p pc Called k l leaves page new none e =
     )
 comes_by_unit m p pc (Stopped stop) k l leaves page new none e = none_is_not_some new (sym none ∙ e)
 
-comes_by_first : (m : State) (ready : List ℕ) → m.ready ≡ ready → m.owed ≡ None → HasWholePages m → (page : ℕ) (new : List ℕ) → page_at m.memory.pages page ≡ None → page_at (unit_of_first m ready).memory.pages page ≡ Some new → UnitCopies m new
+comes_by_first : (m : State) (ready : List ℕ) → m.ready ≡ ready → m.owed ≡ None → HasWholePages m → (page : ℕ) (new : List ℕ) → live_page m.memory.pages page ≡ None → live_page (unit_of_first m ready).memory.pages page ≡ Some new → UnitCopies m new
 comes_by_first m [] is owed k page new none e = none_is_not_some new (sym none ∙ e)
 comes_by_first m (p ∷ rest) is owed k page new none e =
     let pc = (process_of m p).pc in
     let c = comes_by_unit m p pc (instruction m p pc) k (instruction_lived m p pc k.memory) (leaves_instruction m p pc) page new none e in
     record { process = p; others = rest; no_boundary = owed; runs = is; calls = c.0; address = c.1.address; receiver = c.1.receiver; to = c.1.to; gives = c.1.is; given = c.1.given }
 
-comes_by_half : (owed : Option Turn) (m : State) → m.owed ≡ owed → HasWholePages m → (page : ℕ) (new : List ℕ) → page_at m.memory.pages page ≡ None → page_at (cond (is_some owed) (boundary m) (unit m)).memory.pages page ≡ Some new → UnitCopies m new
+comes_by_half : (owed : Option Turn) (m : State) → m.owed ≡ owed → HasWholePages m → (page : ℕ) (new : List ℕ) → live_page m.memory.pages page ≡ None → live_page (cond (is_some owed) (boundary m) (unit m)).memory.pages page ≡ Some new → UnitCopies m new
 unfolding unit
 comes_by_half None m is k page new none e = comes_by_first m m.ready refl is k page new none e
 comes_by_half (Some turn) m is k page new none e = none_is_not_some new (sym none ∙ boundary_pages m page new e)
 
-pub half_copies : (b : Bool) (m : State) → HasWholePages m → (page : ℕ) (new : List ℕ) → page_at m.memory.pages page ≡ None → page_at (half_turn b m).memory.pages page ≡ Some new → UnitCopies (touched b m) new
+pub half_copies : (b : Bool) (m : State) → HasWholePages m → (page : ℕ) (new : List ℕ) → live_page m.memory.pages page ≡ None → live_page (half_turn b m).memory.pages page ≡ Some new → UnitCopies (touched b m) new
 unfolding half_turn
 half_copies b m k page new none e =
-    comes_by_half m.owed (touched b m) (touched_owed b m) (touched_whole b m k) page new (ap (λ (s : PageState). page_at s.pages page) (touched_memory b m) ∙ none) e
+    comes_by_half m.owed (touched b m) (touched_owed b m) (touched_whole b m k) page new (ap (λ (s : PageState). live_page s.pages page) (touched_memory b m) ∙ none) e
 
 -- Stores.
 
@@ -262,8 +262,8 @@ lives_or_not (Some bytes) = inr (bytes, refl)
 
 pub half_as_granted : (b : Bool) (m : State) → HasWholePages m → ChangesAsGranted (touched b m) (half_turn b m)
 half_as_granted b m k page new e =
-    let here = ap (λ (s : PageState). page_at s.pages page) (touched_memory b m) in
-    elim (lives_or_not (page_at m.memory.pages page)) [
+    let here = ap (λ (s : PageState). live_page s.pages page) (touched_memory b m) in
+    elim (lives_or_not (live_page m.memory.pages page)) [
       | inl none ↦ inr (inr (record { before = here ∙ none; copies = half_copies b m k page new none e }))
       | inr live ↦ elim (half_only_stores b m page live.0 new (here ∙ live.1) e) [
         | inl same ↦ inl (here ∙ (live.1 ∙ ap Some (sym same)))
@@ -273,7 +273,7 @@ half_as_granted b m k page new e =
 
 go_by : (on b : Bool) (m : State) → HasWholePages m → ChangesAsGranted (touched b m) (cond on (half_turn b m) m)
 go_by true b m k = half_as_granted b m k
-go_by false b m k = λ page new e. inl (ap (λ (s : PageState). page_at s.pages page) (touched_memory b m) ∙ e)
+go_by false b m k = λ page new e. inl (ap (λ (s : PageState). live_page s.pages page) (touched_memory b m) ∙ e)
 
 pub along_as_granted : (n : ℕ) (choices : List Bool) (m : State) → HasWholePages m → ChangesAsGrantedAlong n choices m
 unfolding after

@@ -18,7 +18,7 @@ use Rattle.ds_pagemap.specs.Machine.{State, Process, process_of, made_unready}
 use Rattle.ds_pagemap.specs.Unit.{Outcome, Went, Branched, Called, Stopped, Stop, where_allowed, with_registers, stored, done, fault, instruction, settle, parked, unit_of_first, unit, after_instruction, after_slot}
 use Rattle.ds_pagemap.proofs.Processes.{process_of-with_process}
 use Rattle.ds_promise.specs.Stores.{Fetches}
-use Rattle.ds_promise.specs.Denied.{IsDenied, EffectStops, InstructionStops, IsParkedAt, EndsUnit}
+use Rattle.ds_promise.specs.Denied.{IsDenied, EffectStops, InstructionStops, IsParkedAt, EndsInSlot}
 
 stopped_is : (s t : Stop) → Stopped s ≡ Stopped t → t ≡ s
 stopped_is s t e = cc
@@ -158,7 +158,7 @@ many_instruction : (m : State) (p pc : ℕ) → AsMany m (instruction m p pc)
 unfolding instruction
 many_instruction m p pc = many_where m (decide m.memory.table p Fetch Word pc) Fetch pc _ (λ page offset. many_done m p pc (meaning (instruction_of (word_at (bytes_of m.memory.pages page) offset)) pc (process_of m p).registers))
 
-slot_parks : (m : State) (p a pc target : ℕ) (o : Outcome) → 0 < p → p ≤ length m.processes → EndsUnit o → IsParkedAt (after_slot m p a pc target o) p a
+slot_parks : (m : State) (p a pc target : ℕ) (o : Outcome) → 0 < p → p ≤ length m.processes → EndsInSlot o → IsParkedAt (after_slot m p a pc target o) p a
 slot_parks m p a pc target (Went t) above within e = absurd e
 slot_parks m p a pc target (Branched t next) above within e = is_parked m p a pc (fault pc 10) above within
 slot_parks m p a pc target Called above within e = is_parked m p a pc (fault pc 8) above within
@@ -166,7 +166,7 @@ slot_parks m p a pc target (Stopped stop) above within e = is_parked m p a pc st
 
 -- nor does one whose slot stops, or is a branch or a call, go on: its process is parked at the branch
 pub unit_parks_in_slot : (m t : State) (p target : ℕ) (rest : List ℕ) → 0 < p → p ≤ length m.processes → m.ready ≡ p ∷ rest → instruction m p (process_of m p).pc ≡ Branched t target
-    → EndsUnit (instruction t p (word ((process_of m p).pc + 4))) → IsParkedAt (unit m) p (process_of m p).pc
+    → EndsInSlot (instruction t p (word ((process_of m p).pc + 4))) → IsParkedAt (unit m) p (process_of m p).pc
 unfolding unit
 unit_parks_in_slot m t p target rest above within is branched ends =
     let pc = (process_of m p).pc in

@@ -4,7 +4,7 @@ use Rattle.std.specs.Prelude.{codes, nat_le, nat_lt, ◌&&◌, replicate, slice_
 use Rattle.std.specs.List.{All}
 use Rattle.std.proofs.lemmas.List.{length-replicate, length-take-le}
 use Rattle.std.proofs.lemmas.List.Elements.{All-head, All-tail}
-use Rattle.ds_asm.specs.Images.{part_of}
+use Rattle.ds_asm.specs.Images.{page_of_image}
 use Rattle.ds_policy.specs.declared.policy.PolicyPage.{PolicyPage}
 use Rattle.ds_policy.specs.declared.policy.PolicyRule.{PolicyRule}
 use Rattle.ds_policy.specs.declared.policy.Source.{Source}
@@ -24,7 +24,7 @@ use Rattle.ds_pagemap.specs.Machine.{State}
 use Rattle.ds_pagemap.specs.First.{source_bytes, image_named, first_state}
 use Rattle.ds_pagemap.specs.Inputs.{Limit, BadRandom, Sources, check, input_read, images_from, inputs, inputs_under, inputs_under_by}
 use Rattle.ds_pagemap_laws.proofs.FirstStates.{made}
-use Rattle.ds_promise.specs.Stores.{page_at}
+use Rattle.ds_promise.specs.Stores.{live_page}
 use Rattle.ds_promise.specs.Families.{HaveOwnAddresses, AllHaveOwnAddresses}
 use Rattle.ds_promise.specs.Whole.{Lives, HasWholePages}
 use Rattle.ds_promise.proofs.Stores.{none_is_not_some}
@@ -33,7 +33,7 @@ use Rattle.ds_promise.proofs.Tables.{AllGrants, with_entry_all, with_entry_table
 
 -- Bytes.
 
-part_size : (image : List ℕ) (k : ℕ) → length (part_of image k) ≡ 4096
+part_size : (image : List ℕ) (k : ℕ) → length (page_of_image image k) ≡ 4096
 part_size image k =
     length-take-le 4096 (drop (4096 * k) image ++ replicate 4096 0)
     (long (length (drop (4096 * k) image)) (length {A = ℕ} (replicate 4096 0)) (length (drop (4096 * k) image ++ replicate 4096 0)) (length-replicate {A = ℕ} 4096 0) (length-append (drop (4096 * k) image) (replicate 4096 0)))
@@ -50,7 +50,7 @@ module _ (names images : List (List ℕ)) where
   abbrev listed : List PolicyPage → ℕ → Pages
   listed pages more = map (λ (page : PolicyPage). Some (source_bytes names images page.source)) pages ++ replicate more None
 
-  room_is_free : (more i : ℕ) (bytes : List ℕ) → page_at (replicate more None) i ≡ Some bytes → length bytes ≡ 4096
+  room_is_free : (more i : ℕ) (bytes : List ℕ) → live_page (replicate more None) i ≡ Some bytes → length bytes ≡ 4096
   room_is_free zero i bytes e = none_is_not_some bytes e
   room_is_free (suc more) zero bytes e = none_is_not_some bytes e
   room_is_free (suc more) (suc i) bytes e = room_is_free more i bytes e
@@ -58,7 +58,7 @@ module _ (names images : List (List ℕ)) where
   one_list : (a b : List ℕ) → ◌≡◌ {A = Option (List ℕ)} (Some a) (Some b) → b ≡ a
   one_list a b e = cc
 
-  listed_size : (pages : List PolicyPage) (more i : ℕ) (bytes : List ℕ) → page_at (listed pages more) i ≡ Some bytes → length bytes ≡ 4096
+  listed_size : (pages : List PolicyPage) (more i : ℕ) (bytes : List ℕ) → live_page (listed pages more) i ≡ Some bytes → length bytes ≡ 4096
   listed_size [] more i bytes e = room_is_free more i bytes e
   listed_size (page ∷ pages) more zero bytes e = ap (λ (b : List ℕ). length b) (one_list (source_bytes names images page.source) bytes e) ∙ source_size names images page.source
   listed_size (page ∷ pages) more (suc i) bytes e = listed_size pages more i bytes e

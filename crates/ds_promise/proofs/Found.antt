@@ -35,7 +35,7 @@ pub found : (n k : ℕ) (m : State) → quiet_halves n k m ≡ true → goes_on 
 found n k m q over = record {
   halves = λ i on. elim (cases_lt i k) [
     | inl before ↦ early n k m q i before on
-    | inr behind ↦ absurd (apart (goes_on n (after n (replicate i false) m)) on (ap (goes_on n) (stays n m k (i - k) over i (omega (arith, behind))) ∙ over))
+    | inr afterwards ↦ absurd (apart (goes_on n (after n (replicate i false) m)) on (ap (goes_on n) (stays n m k (i - k) over i (omega (arith, afterwards))) ∙ over))
   ];
 }
   where

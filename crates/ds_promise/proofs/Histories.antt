@@ -8,10 +8,10 @@ use Rattle.ds_word.specs.Bytes.{bytes_of_word, word_at, with_word}
 use Rattle.ds_policy.specs.Grants.{PageState}
 use Rattle.ds_pagemap.specs.Machine.{State}
 use Rattle.ds_pagemap.specs.Run.{half_turn, goes_on, after}
-use Rattle.ds_promise.specs.Stores.{page_at, Stored, StoresThere, StoresAlong, DiesAlong}
+use Rattle.ds_promise.specs.Stores.{live_page, Stored, StoresThere, StoresAlong, DiesAlong}
 use Rattle.ds_promise.proofs.Stores.{one_page, along_only_stores, touched_memory}
 
-gone_now : (n : ℕ) (choices : List Bool) (m : State) (page : ℕ) → page_at (after n choices m).memory.pages page ≡ None → DiesAlong n choices m page
+gone_now : (n : ℕ) (choices : List Bool) (m : State) (page : ℕ) → live_page (after n choices m).memory.pages page ≡ None → DiesAlong n choices m page
 unfolding after
 gone_now n [] m page e = e
 gone_now n (touch ∷ earlier) m page e = inl e
@@ -21,33 +21,33 @@ lives_or_not None = inl refl
 lives_or_not (Some bytes) = inr (bytes, refl)
 
 -- a step of a run that is over changes nothing
-over_same : (on : Bool) (touch : Bool) (a : State) (page : ℕ) → on ≡ false → page_at (cond on (half_turn touch a) a).memory.pages page ≡ page_at a.memory.pages page
+over_same : (on : Bool) (touch : Bool) (a : State) (page : ℕ) → on ≡ false → live_page (cond on (half_turn touch a) a).memory.pages page ≡ live_page a.memory.pages page
 over_same true touch a page e = absurd (true_is_not_false e)
   where
     true_is_not_false : true ≡ false → ⊥
     true_is_not_false e = cc
 over_same false touch a page e = refl
 
-step_along : (n : ℕ) (touch : Bool) (earlier : List Bool) (m : State) (page : ℕ) (old new : List ℕ) → page_at (after n earlier m).memory.pages page ≡ Some old → page_at (after n (touch ∷ earlier) m).memory.pages page ≡ Some new
+step_along : (n : ℕ) (touch : Bool) (earlier : List Bool) (m : State) (page : ℕ) (old new : List ℕ) → live_page (after n earlier m).memory.pages page ≡ Some old → live_page (after n (touch ∷ earlier) m).memory.pages page ≡ Some new
     → (new ≡ old) ⊎ StoresThere n touch earlier m page
 unfolding after
 step_along n touch earlier m page old new e f =
     let a = after n earlier m in
     elim (cases_Bool (goes_on n a)) [
       | inr over ↦ inl (one_page a.memory.pages page old new e (sym (over_same (goes_on n a) touch a page over) ∙ f))
-      | inl on ↦ elim ((along_only_stores n (touch ∷ earlier) m).0 page old new (ap (λ (s : PageState). page_at s.pages page) (touched_memory touch a) ∙ e) f) [
+      | inl on ↦ elim ((along_only_stores n (touch ∷ earlier) m).0 page old new (ap (λ (s : PageState). live_page s.pages page) (touched_memory touch a) ∙ e) f) [
         | inl same ↦ inl same
         | inr stores ↦ inr (record { old = old; new = new; on = on; lives_before = e; lives_after = f; stores = stores })
       ]
     ]
 
 -- a page that lives at both ends of a run is the same, or was stored to on the way, or died
-pub page_along : (n : ℕ) (choices : List Bool) (m : State) (page : ℕ) (old new : List ℕ) → page_at m.memory.pages page ≡ Some old → page_at (after n choices m).memory.pages page ≡ Some new
+pub page_along : (n : ℕ) (choices : List Bool) (m : State) (page : ℕ) (old new : List ℕ) → live_page m.memory.pages page ≡ Some old → live_page (after n choices m).memory.pages page ≡ Some new
     → (new ≡ old) ⊎ (StoresAlong n choices m page ⊎ DiesAlong n choices m page)
 unfolding after
 page_along n [] m page old new e f = inl (one_page m.memory.pages page old new e f)
 page_along n (touch ∷ earlier) m page old new e f =
-    elim (lives_or_not (page_at (after n earlier m).memory.pages page)) [
+    elim (lives_or_not (live_page (after n earlier m).memory.pages page)) [
       | inl gone ↦ inr (inr (inr (gone_now n earlier m page gone)))
       | inr mid ↦ elim (step_along n touch earlier m page mid.0 new mid.1 f) [
         | inr stores ↦ inr (inl (inl stores))

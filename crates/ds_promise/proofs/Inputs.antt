@@ -8,7 +8,7 @@ use Rattle.ds_pagemap.specs.Machine.{State, no_process}
 use Rattle.ds_pagemap.specs.First.{first_state}
 use Rattle.ds_pagemap.specs.Inputs.{Sources, images_from, inputs}
 use Rattle.ds_pagemap.specs.Run.{Ends}
-use Rattle.ds_pagemap.specs.Text.{text_of}
+use Rattle.ds_pagemap.specs.Text.{state_text}
 use Rattle.ds_pagemap_laws.specs.Lawful.{IsLawful}
 use Rattle.ds_pagemap_laws.proofs.FirstStates.{made, inputs_lawful}
 use Rattle.ds_promise.specs.Twins.{HaveRegisters}
@@ -42,6 +42,6 @@ one_first text sources input n r s m t h g =
     ∙ (ap (λ (is : List (List ℕ)). first_state b.policy is a.events) images
     ∙ (ap (λ (e : InputValue). first_state b.policy b.images e) events ∙ b.is)))
 
-pub one_text_of_inputs : (text : List ℕ) (sources : Sources) (input : List ℕ) (n r s : ℕ) (m o t u : State) → inputs text sources input n r ≡ Ok m → inputs text sources input n s ≡ Ok o → IsQuiet n m → Ends n m t → Ends n o u → text_of t ≡ text_of u
+pub one_text_of_inputs : (text : List ℕ) (sources : Sources) (input : List ℕ) (n r s : ℕ) (m o t u : State) → inputs text sources input n r ≡ Ok m → inputs text sources input n s ≡ Ok o → IsQuiet n m → Ends n m t → Ends n o u → state_text t ≡ state_text u
 one_text_of_inputs text sources input n r s m o t u h g q e f =
     one_text n m t u (first_registers text sources input n r m h) q e (subst (λ (x : State). Ends n x u) (sym (one_first text sources input n r s m o h g)) f)

@@ -22,7 +22,7 @@ use Rattle.ds_pagemap.specs.Run.{half_turn, goes_on, after, Reaches}
 use Rattle.ds_pagemap.specs.Laws.{due}
 use Rattle.ds_pagemap.proofs.Units.{Leaves, leaves_instruction}
 use Rattle.ds_pagemap.proofs.Touches.{touched-log}
-use Rattle.ds_promise.specs.Lines.{refusal, line_of_give, lines_of_call, lines_of_slot, lines_of_instruction, lines_of_first, refusal_of, line_of_command, lines_of_commands, lines_of_turn, lines_along, after_ends}
+use Rattle.ds_promise.specs.Lines.{refused_by, line_of_give, lines_of_call, lines_of_slot, lines_of_instruction, lines_of_first, command_refusal, line_of_command, lines_of_commands, lines_of_turn, lines_along, after_ends}
 
 nothing : (xs ys : List Line) → ys ≡ xs → ys ≡ xs ++ []
 nothing xs ys e = e ∙ sym (append-nil xs)
@@ -41,7 +41,7 @@ number_lines : (m : State) (p : ℕ) (r : Result PageState ℕ) → (or_number m
 number_lines m p (Ok s) = refl
 number_lines m p (Err number) = refl
 
-give_lines : (m : State) (p pc address : ℕ) (r : Result PageState ℕ) → (or_denied m p pc address r).log ≡ m.log ++ line_of_give m p pc address (refusal r)
+give_lines : (m : State) (p pc address : ℕ) (r : Result PageState ℕ) → (or_denied m p pc address r).log ≡ m.log ++ line_of_give m p pc address (refused_by r)
 give_lines m p pc address (Ok s) = nothing m.log _ refl
 give_lines m p pc address (Err number) = refl
 
@@ -89,7 +89,7 @@ call_lines_after m p pc call.Get = refl
 call_lines_after m p pc call.Yield = refl
 call_lines_after m p pc call.Time = refl
 call_lines_after m p pc call.Own = refl
-call_lines_after m p pc (call.Give address receiver to mode) = ap (λ (alive : ℕ → Bool). line_of_give m p pc address (refusal (give alive m.memory p address receiver to mode))) (lives_after_the_call m p pc)
+call_lines_after m p pc (call.Give address receiver to mode) = ap (λ (alive : ℕ → Bool). line_of_give m p pc address (refused_by (give alive m.memory p address receiver to mode))) (lives_after_the_call m p pc)
 call_lines_after m p pc (call.Take process address) = refl
 call_lines_after m p pc (call.Drop address) = refl
 call_lines_after m p pc call.Wait = refl
@@ -129,7 +129,7 @@ unit_lines m = first_lines m m.ready
 
 -- Commands.
 
-logged_lines : (m : State) (k : ℕ) (r : Result PageState ℕ) → (or_logged m k r).log ≡ m.log ++ line_of_command m.time k (refusal r)
+logged_lines : (m : State) (k : ℕ) (r : Result PageState ℕ) → (or_logged m k r).log ≡ m.log ++ line_of_command m.time k (refused_by r)
 logged_lines m k (Ok s) = nothing m.log _ refl
 logged_lines m k (Err number) = refl
 
@@ -142,7 +142,7 @@ resume_lines true c m t k e = refl
 resume_lines false true m t k e = refl
 resume_lines false false m t k e = nothing m.log _ e
 
-pub command_lines : (m : State) (k : ℕ) (c : Command) → (after_command m k c).log ≡ m.log ++ line_of_command m.time k (refusal_of m k c)
+pub command_lines : (m : State) (k : ℕ) (c : Command) → (after_command m k c).log ≡ m.log ++ line_of_command m.time k (command_refusal m k c)
 command_lines m k (command.Grant p address page right give) = logged_lines m k (grant (lives m) m.memory p address page right give (1000 + k))
 command_lines m k (command.Narrow p address) = logged_lines m k (narrow (lives m) m.memory p address)
 command_lines m k (command.Revoke p address) = logged_lines m k (revoke (lives m) m.memory p address (1000 + k))
@@ -154,7 +154,7 @@ commands_lines : (m : State) (cs : List TimedCommand) → (after_commands m cs).
 commands_lines m [] = nothing m.log _ refl
 commands_lines m (c ∷ rest) =
     let next = after_command m c.number c.command in
-    let line = line_of_command m.time c.number (refusal_of m c.number c.command) in
+    let line = line_of_command m.time c.number (command_refusal m c.number c.command) in
     commands_lines next rest
     ∙ (ap (λ (ls : List Line). ls ++ lines_of_commands next rest) (command_lines m c.number c.command) ∙ append_assoc m.log line (lines_of_commands next rest))
 
@@ -187,7 +187,7 @@ module _ (cs : List TimedCommand) (chs : List Character) (owed : Option Turn) wh
   commands_with_events m [] = refl
   commands_with_events m (c ∷ rest) = ap (λ (s : State). after_commands s rest) (command_with_events m c.number c.command) ∙ commands_with_events (after_command m c.number c.command) rest
 
-  refusal_with_events : (m : State) (k : ℕ) (c : Command) → refusal_of (with_events cs chs owed m) k c ≡ refusal_of m k c
+  refusal_with_events : (m : State) (k : ℕ) (c : Command) → command_refusal (with_events cs chs owed m) k c ≡ command_refusal m k c
   refusal_with_events m k (command.Grant p address page right give) = refl
   refusal_with_events m k (command.Narrow p address) = refl
   refusal_with_events m k (command.Revoke p address) = refl

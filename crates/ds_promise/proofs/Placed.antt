@@ -19,7 +19,7 @@ use Rattle.ds_policy.specs.Ends.{has_some_expired, expired_table, expired}
 use Rattle.ds_pagemap.specs.Machine.{State, process_of, is_parked, lives, made_ready}
 use Rattle.ds_pagemap.specs.Calls.{served, answered, or_number, or_denied, after_get, after_wait, queue_of, after_command, or_logged, refuse_command, ended}
 use Rattle.ds_promise.specs.Families.{AllHaveOwnAddresses}
-use Rattle.ds_promise.specs.Lines.{refusal}
+use Rattle.ds_promise.specs.Lines.{refused_by}
 use Rattle.ds_promise.proofs.Entries.{no_grant_found, one_grant, found_put_same, found_put_other, handed, handed_grant, same_place, without_left, without_gone}
 use Rattle.ds_promise.proofs.Reach.{pruned, pruned_at, forbidden_grant, marked, marked_at}
 use Rattle.ds_promise.proofs.Tables.{row_cases, found_before, was_another, expired_grant, expired_at}
@@ -111,7 +111,7 @@ module _ (P : ℕ → ℕ → Grant → Type 0)
   -- what a command grants, if it grants something and isn't refused, meets P
   abbrev pub GrantIsPlaced : State → ℕ → Command → Type 0
   GrantIsPlaced m k (command.Grant p address page right give) =
-      refusal (grant (lives m) m.memory p address page right give (1000 + k)) ≡ None → lives m p ≡ true
+      refused_by (grant (lives m) m.memory p address page right give (1000 + k)) ≡ None → lives m p ≡ true
       → P (p - 1) address (record { right = right; page = Some page; rule = 1000 + k; give = give; giver = 0; parent = None; until = None })
   GrantIsPlaced m k (command.Narrow p address) = Unit {0}
   GrantIsPlaced m k (command.Revoke p address) = Unit {0}
@@ -148,7 +148,7 @@ module _ (P : ℕ → ℕ → Grant → Type 0)
   ended_placed : (m : State) (p : ℕ) → AllPlaced P m.memory.table → AllPlaced P (ended m p).memory.table
   ended_placed m p all = without_entries_placed p (entries_of m.memory.table p) m.memory.table all
 
-  logged_placed : (m : State) (k : ℕ) (r : Result PageState ℕ) → AllPlaced P m.memory.table → (refusal r ≡ None → OfDone Keeps r) → AllPlaced P (or_logged m k r).memory.table
+  logged_placed : (m : State) (k : ℕ) (r : Result PageState ℕ) → AllPlaced P m.memory.table → (refused_by r ≡ None → OfDone Keeps r) → AllPlaced P (or_logged m k r).memory.table
   logged_placed m k (Ok s) all done = done refl
   logged_placed m k (Err number) all done = all
 
@@ -178,7 +178,7 @@ module _ (P : ℕ → ℕ → Grant → Type 0)
   GiveIsPlaced m p call.Time = Unit {0}
   GiveIsPlaced m p call.Own = Unit {0}
   GiveIsPlaced m p (call.Give address receiver to mode) =
-      refusal (give (lives m) m.memory p address receiver to mode) ≡ None → lives m receiver ≡ true → (g : Grant) → P (receiver - 1) to g
+      refused_by (give (lives m) m.memory p address receiver to mode) ≡ None → lives m receiver ≡ true → (g : Grant) → P (receiver - 1) to g
   GiveIsPlaced m p (call.Take process address) = Unit {0}
   GiveIsPlaced m p (call.Drop address) = Unit {0}
   GiveIsPlaced m p call.Wait = Unit {0}
@@ -214,7 +214,7 @@ module _ (P : ℕ → ℕ → Grant → Type 0)
   number_placed m p (Ok s) all done = done
   number_placed m p (Err number) all done = all
 
-  denied_placed : (m : State) (p pc address : ℕ) (r : Result PageState ℕ) → AllPlaced P m.memory.table → (refusal r ≡ None → OfDone Keeps r) → AllPlaced P (or_denied m p pc address r).memory.table
+  denied_placed : (m : State) (p pc address : ℕ) (r : Result PageState ℕ) → AllPlaced P m.memory.table → (refused_by r ≡ None → OfDone Keeps r) → AllPlaced P (or_denied m p pc address r).memory.table
   denied_placed m p pc address (Ok s) all done = done refl
   denied_placed m p pc address (Err number) all done = all
 

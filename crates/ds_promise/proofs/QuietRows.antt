@@ -2,7 +2,7 @@
 use Rattle.std.proofs.Common.{◌≡◌, true, false, [], ◌∷◌, refl}
 use Rattle.ds_pagemap.specs.Rows.{run_on_literals}
 use Rattle.ds_promise.specs.Quiet.{IsQuiet}
-use Rattle.ds_promise.specs.QuietRows.{guest}
+use Rattle.ds_promise.specs.Rows.QuietRows.{guest}
 
 -- the first instruction reads no register, the second reads register 26
 pub a_run_is_quiet_along_its_whole_way : IsQuiet 100 (guest ("nop" ∷ "addu $4,$26,$0" ∷ "syscall" ∷ [])) → ⊥

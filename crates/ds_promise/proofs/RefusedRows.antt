@@ -14,7 +14,7 @@ use Rattle.ds_pagemap.specs.Machine.{State, process_of}
 use Rattle.ds_pagemap.specs.Unit.{Stop, Outcome, Went, Branched, Called, Stopped, with_registers}
 use Rattle.ds_pagemap.specs.Run.{after}
 use Rattle.ds_pagemap.specs.Rows.{run_on_literals}
-use Rattle.ds_promise.specs.Stores.{page_at, Stored, StoredInSlot, OnlyStores}
+use Rattle.ds_promise.specs.Stores.{live_page, Stored, StoredInSlot, OnlyStores}
 use Rattle.ds_promise.specs.Seen.{LookAlike, Action, Computes, Jumps, WritesWord, MakesCall, Stops, carried_out, BySameAction}
 use Rattle.ds_promise.specs.Rows.{storing, written}
 
@@ -23,7 +23,7 @@ abbrev asleep : State
 asleep = record storing { ready = [] }
 
 -- a page that changes where nobody runs is refused
-pub nobody_changes_a_page : (other : State) → page_at other.memory.pages 1 ≡ Some written → OnlyStores asleep other → ⊥
+pub nobody_changes_a_page : (other : State) → live_page other.memory.pages 1 ≡ Some written → OnlyStores asleep other → ⊥
 unfolding run_on_literals
 nobody_changes_a_page other is only = elim (only 1 (replicate 4096 0) written refl is) [
   | inl same ↦ zero_is_not_65 (ap (λ (bs : List ℕ). slice_index bs 6) same)
@@ -91,7 +91,7 @@ other_registers_are_seen k = differ (ap (λ (r : Registers). slice_index r.gener
 -- Wrong machines, refused.
 
 -- a turn that changes the page of code, the neighbour of the page that is stored to
-pub a_neighbour_that_changes_is_refused : (other : State) (old new : List ℕ) → page_at storing.memory.pages 0 ≡ Some old → page_at other.memory.pages 0 ≡ Some new → (new ≡ old → ⊥) → OnlyStores storing other → ⊥
+pub a_neighbour_that_changes_is_refused : (other : State) (old new : List ℕ) → live_page storing.memory.pages 0 ≡ Some old → live_page other.memory.pages 0 ≡ Some new → (new ≡ old → ⊥) → OnlyStores storing other → ⊥
 unfolding run_on_literals
 a_neighbour_that_changes_is_refused other old new before now apart only = elim (only 0 old new before now) [
   | inl same ↦ apart same

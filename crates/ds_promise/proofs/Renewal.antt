@@ -26,7 +26,7 @@ use Rattle.ds_pagemap.specs.Laws.{due}
 use Rattle.ds_pagemap.proofs.Units.{Leaves, leaves_instruction}
 use Rattle.ds_promise.specs.Families.{IsOutOfReach, AllHaveOwnAddresses}
 use Rattle.ds_promise.specs.Whole.{HasWholePages}
-use Rattle.ds_promise.specs.Lines.{refusal, refusal_of, after_ends}
+use Rattle.ds_promise.specs.Lines.{refused_by, command_refusal, after_ends}
 use Rattle.ds_promise.specs.Ends.{IsInTime, grants_at, commands_grant, call_grants, instruction_grants, unit_grants, turn_grants, grants_along}
 use Rattle.ds_promise.proofs.Entries.{false_is_not_true, one_grant, entry_same}
 use Rattle.ds_promise.proofs.Granted.{allowed_holds, lets_something}
@@ -61,10 +61,10 @@ module _ (q a end : ℕ) (above : 0 < q) where
 
   -- Boundaries.
 
-  grant_elsewhere : (m : State) (k : ℕ) (c : Command) → (grants_at q a c && not (is_some (refusal_of m k c))) ≡ false
+  grant_elsewhere : (m : State) (k : ℕ) (c : Command) → (grants_at q a c && not (is_some (command_refusal m k c))) ≡ false
       → GrantIsPlaced EndsThen (λ i b g parent l. l) (λ i b g right l row here some. l row here right) (λ i b rule row here right. false_is_not_true right) m k c
   grant_elsewhere m k (command.Grant p address page right give) e = λ done living row same some.
-      absurd (elsewhere p q address a (refusal (grant (lives m) m.memory p address page right give (1000 + k))) e done (counted m p living) above row same)
+      absurd (elsewhere p q address a (refused_by (grant (lives m) m.memory p address page right give (1000 + k))) e done (counted m p living) above row same)
   grant_elsewhere m k (command.Narrow p address) e = tt
   grant_elsewhere m k (command.Revoke p address) e = tt
   grant_elsewhere m k (command.Drop p address) e = tt
@@ -74,7 +74,7 @@ module _ (q a end : ℕ) (above : 0 < q) where
   commands_keep : (m : State) (cs : List TimedCommand) → commands_grant m cs q a ≡ false → Keeps m → Keeps (after_commands m cs)
   commands_keep m [] e all = all
   commands_keep m (c ∷ rest) e all =
-      let both = neither (grants_at q a c.command && not (is_some (refusal_of m c.number c.command))) (commands_grant (after_command m c.number c.command) rest q a) e in
+      let both = neither (grants_at q a c.command && not (is_some (command_refusal m c.number c.command))) (commands_grant (after_command m c.number c.command) rest q a) e in
       commands_keep (after_command m c.number c.command) rest both.1
       (command_placed EndsThen (λ i b g parent l. l) (λ i b g right l row here some. l row here right) (λ i b rule row here right. false_is_not_true right) m c.number c.command (grant_elsewhere m c.number c.command both.0) all)
 
@@ -96,8 +96,8 @@ module _ (q a end : ℕ) (above : 0 < q) where
   give_elsewhere m p pc call.Own e = tt
   give_elsewhere m p pc (call.Give address receiver to mode) e = λ done living g row same some.
       let alike = lives_after_the_call m p pc in
-      absurd (elsewhere receiver q to a (refusal (give (lives m) m.memory p address receiver to mode)) e
-      (subst (λ (alive : ℕ → Bool). refusal (give alive m.memory p address receiver to mode) ≡ None) alike done)
+      absurd (elsewhere receiver q to a (refused_by (give (lives m) m.memory p address receiver to mode)) e
+      (subst (λ (alive : ℕ → Bool). refused_by (give alive m.memory p address receiver to mode) ≡ None) alike done)
       (counted m receiver (subst (λ (alive : ℕ → Bool). alive receiver ≡ true) alike living)) above row same)
   give_elsewhere m p pc (call.Take process address) e = tt
   give_elsewhere m p pc (call.Drop address) e = tt

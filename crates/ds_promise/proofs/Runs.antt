@@ -11,9 +11,10 @@ use Rattle.ds_pagemap.specs.Machine.{State, Process, no_process, has_ended, touc
 use Rattle.ds_pagemap.specs.Unit.{unit}
 use Rattle.ds_pagemap.specs.Boundary.{boundary}
 use Rattle.ds_pagemap.specs.Run.{half_turn, goes_on, go, after, Ends}
-use Rattle.ds_pagemap.specs.Text.{text_of}
+use Rattle.ds_pagemap.specs.Text.{state_text}
 use Rattle.ds_promise.specs.Alike.{is_kernel_register, AreLateAlike, AreAlike}
-use Rattle.ds_promise.specs.Twins.{IsTwinProcess, AreTwins, IsTwin, HaveRegisters}
+use Rattle.ds_promise.specs.Twins.{HaveRegisters}
+use Rattle.ds_promise.specs.Inner.Twins.{IsTwinProcess, AreTwins, IsTwin}
 use Rattle.ds_promise.specs.Quiet.{quiet_first, is_quiet_half_turn, IsQuiet}
 use Rattle.ds_promise.proofs.Twins.{twin, same, twins_set}
 use Rattle.ds_promise.proofs.Units.{unit_alike}
@@ -124,10 +125,10 @@ run_alike n m h q [] = itself m h
 run_alike n m h q (touch ∷ earlier) =
     go_alike n (after n (replicate (length earlier) false) m) (after n earlier m) touch (run_alike n m h q earlier) (q.halves (length earlier))
 
-same_text : (m t : State) → IsTwin m t → text_of t ≡ text_of m
-same_text m t k = ap text_of k.is
+same_text : (m t : State) → IsTwin m t → state_text t ≡ state_text m
+same_text m t k = ap state_text k.is
 
-pub quiet_text : (n : ℕ) (m t : State) → HaveRegisters m → IsQuiet n m → Ends n m t → (k : ℕ) × (text_of t ≡ text_of (after n (replicate k false) m)) × (goes_on n (after n (replicate k false) m) ≡ false)
+pub quiet_text : (n : ℕ) (m t : State) → HaveRegisters m → IsQuiet n m → Ends n m t → (k : ℕ) × (state_text t ≡ state_text (after n (replicate k false) m)) × (goes_on n (after n (replicate k false) m) ≡ false)
 quiet_text n m t h q e =
     let choices = e.reached.choices in
     let u = after n (replicate (length choices) false) m in
@@ -148,11 +149,11 @@ stays n m k (suc d) h (suc e) is =
 one_end : (n : ℕ) (m : State) (j k : ℕ) → goes_on n (after n (replicate j false) m) ≡ false → goes_on n (after n (replicate k false) m) ≡ false → after n (replicate j false) m ≡ after n (replicate k false) m
 one_end n m j k a b = elim (cases_lt j k) [
   | inl before ↦ sym (stays n m j (k - j) a k (omega arith))
-  | inr behind ↦ stays n m k (j - k) b j (omega arith)
+  | inr afterwards ↦ stays n m k (j - k) b j (omega arith)
 ]
 
-pub one_text : (n : ℕ) (m t u : State) → HaveRegisters m → IsQuiet n m → Ends n m t → Ends n m u → text_of t ≡ text_of u
+pub one_text : (n : ℕ) (m t u : State) → HaveRegisters m → IsQuiet n m → Ends n m t → Ends n m u → state_text t ≡ state_text u
 one_text n m t u h q e f =
     let a = quiet_text n m t h q e in
     let b = quiet_text n m u h q f in
-    a.1 ∙ (ap text_of (one_end n m a.0 b.0 a.2 b.2) ∙ sym b.1)
+    a.1 ∙ (ap state_text (one_end n m a.0 b.0 a.2 b.2) ∙ sym b.1)

@@ -21,7 +21,7 @@ use Rattle.ds_policy.specs.Pages.{Pages, decide, bytes_of, entry_at, page_addres
 use Rattle.ds_pagemap.specs.Machine.{State, Process, process_of, with_process}
 use Rattle.ds_pagemap.specs.Unit.{Stop, Outcome, Went, Stopped, settle, where_allowed, with_registers, stored, fault, done, instruction}
 use Rattle.ds_pagemap.proofs.Processes.{process_of-with_process, process_of-with_process_other}
-use Rattle.ds_promise.specs.Stores.{page_at}
+use Rattle.ds_promise.specs.Stores.{live_page}
 use Rattle.ds_promise.specs.Seen.{LookAlike, Computes, Jumps, WritesWord, MakesCall, Stops, BySameAction, StayAlike}
 use Rattle.ds_promise.proofs.Granted.{allowed_holds, lets_something}
 
@@ -30,7 +30,7 @@ same_answer : (p : ℕ) (m t : State) → LookAlike p m t → (kind : Kind) (siz
 same_answer p m t k kind size address = ap (λ (e : Option Grant). cond (not (is_aligned size address)) (Denied A (address_code kind)) (cond (nat_le (2 ^ 31) address) (Denied K (address_code kind)) (by_entry e kind (address % 4096)))) (k.entries (page_address address))
 
 -- one page where it allows
-shared_page : (p : ℕ) (m t : State) → LookAlike p m t → (kind : Kind) (size : Size) (address page offset : ℕ) → decide m.memory.table p kind size address ≡ Allowed page offset → page_at m.memory.pages page ≡ page_at t.memory.pages page
+shared_page : (p : ℕ) (m t : State) → LookAlike p m t → (kind : Kind) (size : Size) (address page offset : ℕ) → decide m.memory.table p kind size address ≡ Allowed page offset → live_page m.memory.pages page ≡ live_page t.memory.pages page
 shared_page p m t k kind size address page offset e =
     let h = allowed_holds m.memory.table p kind size address page offset e in
     k.pages (page_address address) page h.grant h.held (lets_something h.grant.right kind h.right) h.names
@@ -39,17 +39,17 @@ abbrev bytes_or : Option (List ℕ) → List ℕ
 bytes_or None = []
 bytes_or (Some bytes) = bytes
 
-bytes_are : (ps : Pages) (page : ℕ) → bytes_of ps page ≡ bytes_or (page_at ps page)
+bytes_are : (ps : Pages) (page : ℕ) → bytes_of ps page ≡ bytes_or (live_page ps page)
 bytes_are [] page = refl
 bytes_are (None ∷ ps) zero = refl
 bytes_are (Some b ∷ ps) zero = refl
 bytes_are (b ∷ ps) (suc page) = bytes_are ps page
 
-same_bytes : (ps qs : Pages) (page : ℕ) → page_at ps page ≡ page_at qs page → bytes_of ps page ≡ bytes_of qs page
+same_bytes : (ps qs : Pages) (page : ℕ) → live_page ps page ≡ live_page qs page → bytes_of ps page ≡ bytes_of qs page
 same_bytes ps qs page s = bytes_are ps page ∙ (ap bytes_or s ∙ sym (bytes_are qs page))
 
 -- one page put anew in both
-set_alike : (ps qs : Pages) (i : ℕ) (x : Option (List ℕ)) → length ps ≡ length qs → page_at (slice_set ps i x) i ≡ page_at (slice_set qs i x) i
+set_alike : (ps qs : Pages) (i : ℕ) (x : Option (List ℕ)) → length ps ≡ length qs → live_page (slice_set ps i x) i ≡ live_page (slice_set qs i x) i
 set_alike [] [] i x size = refl
 set_alike [] (b ∷ qs) i x size = absurd (omega arith)
 set_alike (a ∷ ps) [] i x size = absurd (omega arith)
@@ -58,14 +58,14 @@ set_alike (a ∷ ps) (b ∷ qs) (suc i) x size = set_alike ps qs i x (omega arit
 
 module _ (R : Outcome → Outcome → Type 0) (stop : (s : Stop) → R (Stopped s) (Stopped s)) (p : ℕ) (m t : State) (k : LookAlike p m t) where
   one_stop : (kind : Kind) (size : Size) (address : ℕ) (f g : ℕ → ℕ → Outcome) (v : Verdict) → decide m.memory.table p kind size address ≡ v
-      → ((page offset : ℕ) → page_at m.memory.pages page ≡ page_at t.memory.pages page → R (f page offset) (g page offset))
+      → ((page offset : ℕ) → live_page m.memory.pages page ≡ live_page t.memory.pages page → R (f page offset) (g page offset))
       → R (where_allowed v kind address f) (where_allowed v kind address g)
   one_stop kind size address f g (Allowed page offset) is h = h page offset (shared_page p m t k kind size address page offset is)
   one_stop kind size address f g (Denied rule code) is h = stop _
 
   -- what is done where an access is allowed
   one_access : (kind : Kind) (size : Size) (address : ℕ) (f g : ℕ → ℕ → Outcome)
-      → ((page offset : ℕ) → page_at m.memory.pages page ≡ page_at t.memory.pages page → R (f page offset) (g page offset))
+      → ((page offset : ℕ) → live_page m.memory.pages page ≡ live_page t.memory.pages page → R (f page offset) (g page offset))
       → R (where_allowed (decide m.memory.table p kind size address) kind address f) (where_allowed (decide t.memory.table p kind size address) kind address g)
   one_access kind size address f g h =
       subst (λ (v : Verdict). R (where_allowed (decide m.memory.table p kind size address) kind address f) (where_allowed v kind address g)) (same_answer p m t k kind size address)
@@ -122,15 +122,15 @@ registers_alike p m t r s e k =
     still ps i x p within = omega (arith, length-set ps i x)
 
 -- the page where a word is put, and the others
-put_shared : (ps qs : Pages) (at page offset w : ℕ) → length ps ≡ length qs → page_at ps at ≡ page_at qs at → page_at ps page ≡ page_at qs page
-    → page_at (slice_set ps at (Some (with_word (bytes_of ps at) offset w))) page ≡ page_at (slice_set qs at (Some (with_word (bytes_of qs at) offset w))) page
+put_shared : (ps qs : Pages) (at page offset w : ℕ) → length ps ≡ length qs → live_page ps at ≡ live_page qs at → live_page ps page ≡ live_page qs page
+    → live_page (slice_set ps at (Some (with_word (bytes_of ps at) offset w))) page ≡ live_page (slice_set qs at (Some (with_word (bytes_of qs at) offset w))) page
 put_shared ps qs at page offset w size s o = elim (cases_eq page at) [
   | inl is ↦ rw is (set_alike ps qs at (Some (with_word (bytes_of ps at) offset w)) size
-      ∙ ap (λ (bs : List ℕ). page_at (slice_set qs at (Some (with_word bs offset w))) at) (same_bytes ps qs at s))
+      ∙ ap (λ (bs : List ℕ). live_page (slice_set qs at (Some (with_word bs offset w))) at) (same_bytes ps qs at s))
   | inr other ↦ get_or-set_other ps at page _ None other ∙ (o ∙ sym (get_or-set_other qs at page _ None other))
 ]
 
-puts_alike : (p : ℕ) (m t : State) (page offset w : ℕ) → page_at m.memory.pages page ≡ page_at t.memory.pages page → LookAlike p m t → LookAlike p (stored m page offset (λ old. w)) (stored t page offset (λ old. w))
+puts_alike : (p : ℕ) (m t : State) (page offset w : ℕ) → live_page m.memory.pages page ≡ live_page t.memory.pages page → LookAlike p m t → LookAlike p (stored m page offset (λ old. w)) (stored t page offset (λ old. w))
 puts_alike p m t page offset w s k = record {
   above = k.above;
   here = k.here;
@@ -148,7 +148,7 @@ puts_alike p m t page offset w s k = record {
 settle_alike : (p : ℕ) (m t : State) → LookAlike p m t → LookAlike p (settle m p) (settle t p)
 settle_alike p m t k = registers_alike p m t _ _ (ap settled k.registers) k
 
-store_alike : (p : ℕ) (m t : State) (page offset : ℕ) (value : ℕ → ℕ) → page_at m.memory.pages page ≡ page_at t.memory.pages page → LookAlike p m t → LookAlike p (stored m page offset value) (stored t page offset value)
+store_alike : (p : ℕ) (m t : State) (page offset : ℕ) (value : ℕ → ℕ) → live_page m.memory.pages page ≡ live_page t.memory.pages page → LookAlike p m t → LookAlike p (stored m page offset value) (stored t page offset value)
 store_alike p m t page offset value s k =
     subst (λ (bs : List ℕ). LookAlike p (stored m page offset value) (stored t page offset (λ old. value (word_at bs offset)))) (same_bytes m.memory.pages t.memory.pages page s)
     (puts_alike p m t page offset (value (word_at (bytes_of m.memory.pages page) offset)) s k)

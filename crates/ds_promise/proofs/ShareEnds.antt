@@ -9,7 +9,7 @@ use Rattle.ds_policy.specs.Pages.{Table, found, put, entry_at, fresh}
 use Rattle.ds_policy.specs.Grants.{PageState, refused, not_page, no_right, no_grant, table_full, fifth_region, no_frames, may_not_give, granted, shared_from, copied, given, give}
 use Rattle.ds_pagemap.specs.Machine.{State, lives}
 use Rattle.ds_pagemap.specs.Calls.{served}
-use Rattle.ds_promise.specs.Lines.{refusal}
+use Rattle.ds_promise.specs.Lines.{refused_by}
 use Rattle.ds_promise.proofs.Entries.{no_grant_found, one_grant, found_put_same}
 use Rattle.ds_promise.proofs.Shares.{denied_left}
 use Rattle.ds_promise.proofs.WholePages.{OfDone, unless_refused, not_refused, third_mode, not_third}
@@ -60,7 +60,7 @@ module _ (s : PageState) (caller a receiver to mode : ℕ) where
       unless_refused E (fifth_region s receiver to) _ (λ _. unless_refused E (no_frames s mode) (Ok (given s caller a own receiver to mode)) (λ _.
       given_ends (mode == 1) (mode == 2) (not_third 1 mode (omega arith)) (not_third 2 mode (omega arith)) (third_mode mode (not own.give) _ (not_refused 15 _ leave)))))))))))
 
-pub gives_end : (m : State) (p pc address receiver to mode : ℕ) → refusal (give (lives m) m.memory p address receiver to mode) ≡ None
+pub gives_end : (m : State) (p pc address receiver to mode : ℕ) → refused_by (give (lives m) m.memory p address receiver to mode) ≡ None
     → EndsAsGiven m.memory (served m p pc (call.Give address receiver to mode)).memory p address receiver to mode
 gives_end m p pc address receiver to mode done =
     denied_left (λ (t : PageState). EndsAsGiven m.memory t p address receiver to mode) m p pc address (give (lives m) m.memory p address receiver to mode) done (give_ends m.memory p address receiver to mode (lives m))

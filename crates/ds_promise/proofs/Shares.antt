@@ -14,7 +14,7 @@ use Rattle.ds_policy.specs.Grants.{PageState, refused, not_page, no_right, no_en
 use Rattle.ds_policy.specs.Families.{parent_of, comes_from, without_entry}
 use Rattle.ds_pagemap.specs.Machine.{State, process_of, lives, has_ended}
 use Rattle.ds_pagemap.specs.Calls.{served, or_number, or_denied, or_logged, refuse_command, after_command, ended}
-use Rattle.ds_promise.specs.Lines.{refusal, refusal_of}
+use Rattle.ds_promise.specs.Lines.{refused_by, command_refusal}
 use Rattle.ds_promise.specs.Families.{CameOf, IsOrCameOf, IsOutOfReach, AllHaveOwnAddresses, PassesOn, HandsOn}
 use Rattle.ds_promise.proofs.Entries.{false_is_not_true, found_put_same, one_grant, no_grant_found, handed_grant, without_left, without_gone}
 use Rattle.ds_promise.proofs.Families.{comes_of_none, all_gone, nearest_stays, rest_stays, none_stays}
@@ -30,17 +30,17 @@ no_refusal number e = absurd (no_such number e)
     no_such : (number : ℕ) → ◌≡◌ {A = Option ℕ} (Some number) None → ⊥
     no_such number e = cc
 
-number_left : (P : PageState → Type 0) (m : State) (p : ℕ) (r : Result PageState ℕ) → refusal r ≡ None → OfDone P r → P (or_number m p r).memory
+number_left : (P : PageState → Type 0) (m : State) (p : ℕ) (r : Result PageState ℕ) → refused_by r ≡ None → OfDone P r → P (or_number m p r).memory
 number_left P m p (Ok s) done k = k
 number_left P m p (Err number) done k = no_refusal number done
 
-pub denied_left : (P : PageState → Type 0) (m : State) (p pc address : ℕ) (r : Result PageState ℕ) → refusal r ≡ None → OfDone P r → P (or_denied m p pc address r).memory
+pub denied_left : (P : PageState → Type 0) (m : State) (p pc address : ℕ) (r : Result PageState ℕ) → refused_by r ≡ None → OfDone P r → P (or_denied m p pc address r).memory
 denied_left P m p pc address (Ok s) done k = k
 denied_left P m p pc address (Err number) done k = no_refusal number done
 
-logged_left : (P : PageState → Type 0) (m : State) (number : ℕ) (r : Result PageState ℕ) → refusal r ≡ None → OfDone P r → P (or_logged m number r).memory
+logged_left : (P : PageState → Type 0) (m : State) (number : ℕ) (r : Result PageState ℕ) → refused_by r ≡ None → OfDone P r → P (or_logged m number r).memory
 logged_left P m number (Ok s) done k = k
-logged_left P m number (Err refusal) done k = no_refusal refusal done
+logged_left P m number (Err refused_by) done k = no_refusal refused_by done
 
 -- processes that live are counted from 1
 pub counted : (m : State) (p : ℕ) → lives m p ≡ true → 0 < p
@@ -79,7 +79,7 @@ take_done alive s caller p a =
     unless_refused P (refused 12 (not (alive p))) _ (λ living. unless_refused P (not_page a) _ (λ _. unless_refused P (no_right s p a) _ (λ _.
     unless_refused P (refused 19 (not ((unwrap_or (entry_at s.table p a) no_grant).giver == caller))) (Ok (cut s p a)) (λ _. record { lives = not_true (alive p) (not_refused 12 _ living); is = refl }))))
 
-module _ (m : State) (p pc holder address : ℕ) (done : refusal (take_back (lives m) m.memory p holder address) ≡ None) where
+module _ (m : State) (p pc holder address : ℕ) (done : refused_by (take_back (lives m) m.memory p holder address) ≡ None) where
   taken : IsCut (lives m) m.memory (served m p pc (call.Take holder address)).memory holder address
   taken = number_left (λ (t : PageState). IsCut (lives m) m.memory t holder address) m p (take_back (lives m) m.memory p holder address) done (take_done (lives m) m.memory p holder address)
 
@@ -112,7 +112,7 @@ revoke_done alive s p a rule =
     unless_refused P (refused 12 (not (alive p))) _ (λ living. unless_refused P (not_page a) _ (λ _.
     unless_refused P (no_right s p a) (Ok (forbidden s p a rule)) (λ has. record { lives = not_true (alive p) (not_refused 12 _ living); old = right_there s p a has; is = refl })))
 
-module _ (m : State) (k holder address : ℕ) (done : refusal_of m k (command.Revoke holder address) ≡ None) where
+module _ (m : State) (k holder address : ℕ) (done : command_refusal m k (command.Revoke holder address) ≡ None) where
   revoked : IsForbidden (lives m) m.memory (after_command m k (command.Revoke holder address)).memory holder address (1000 + k)
   revoked = logged_left (λ (t : PageState). IsForbidden (lives m) m.memory t holder address (1000 + k)) m k (revoke (lives m) m.memory holder address (1000 + k)) done (revoke_done (lives m) m.memory holder address (1000 + k))
 
@@ -167,7 +167,7 @@ put_here t p a g h free e = elim (row_cases t (p - 1) (p - 1) a (put (entries_of
 ]
 
 -- a copy came of no entry
-pub copy_is_apart : (m : State) (p pc address receiver to holder at : ℕ) → refusal (give (lives m) m.memory p address receiver to 3) ≡ None
+pub copy_is_apart : (m : State) (p pc address receiver to holder at : ℕ) → refused_by (give (lives m) m.memory p address receiver to 3) ≡ None
     → CameOf (served m p pc (call.Give address receiver to 3)).memory.table holder at receiver to → ⊥
 copy_is_apart m p pc address receiver to holder at done came =
     let t = (served m p pc (call.Give address receiver to 3)).memory.table in
@@ -210,12 +210,12 @@ drop_done alive s p a =
     unless_refused P (refused 12 (not (alive p))) _ (λ living. unless_refused P (not_page a) _ (λ _.
     unless_refused P (no_entry s p a) (Ok (removed s p a)) (λ _. record { lives = not_true (alive p) (not_refused 12 _ living); is = refl })))
 
-pub drop_passes_on : (m : State) (p pc address : ℕ) → 0 < p → refusal (drop_own m.memory p address) ≡ None → PassesOn m.memory.table (served m p pc (call.Drop address)).memory.table p address
+pub drop_passes_on : (m : State) (p pc address : ℕ) → 0 < p → refused_by (drop_own m.memory p address) ≡ None → PassesOn m.memory.table (served m p pc (call.Drop address)).memory.table p address
 drop_passes_on m p pc address above done =
     let d = number_left (λ (t : PageState). IsRemoved true m.memory t p address) m p (drop_own m.memory p address) done (own_done m.memory p address) in
     subst (λ (t : Table). PassesOn m.memory.table t p address) (sym d.is) (without_passes_on m.memory.table p address above)
 
-pub command_passes_on : (m : State) (k p address : ℕ) → refusal_of m k (command.Drop p address) ≡ None → PassesOn m.memory.table (after_command m k (command.Drop p address)).memory.table p address
+pub command_passes_on : (m : State) (k p address : ℕ) → command_refusal m k (command.Drop p address) ≡ None → PassesOn m.memory.table (after_command m k (command.Drop p address)).memory.table p address
 command_passes_on m k p address done =
     let d = logged_left (λ (t : PageState). IsRemoved (lives m p) m.memory t p address) m k (drop_by_command (lives m) m.memory p address) done (drop_done (lives m) m.memory p address) in
     subst (λ (t : Table). PassesOn m.memory.table t p address) (sym d.is) (without_passes_on m.memory.table p address (counted m p d.lives))

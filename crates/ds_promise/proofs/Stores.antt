@@ -29,13 +29,13 @@ use Rattle.ds_pagemap.specs.Boundary.{after_commands, all_queued, wakes, woken, 
 use Rattle.ds_pagemap.specs.Run.{half_turn, goes_on, after}
 use Rattle.ds_pagemap.specs.Laws.{due}
 use Rattle.ds_pagemap.proofs.Units.{Leaves, leaves_instruction}
-use Rattle.ds_promise.specs.Stores.{page_at, Holds, Fetches, Stored, StoredInSlot, UnitStores, OnlyStores, OnlyStoresAlong}
+use Rattle.ds_promise.specs.Stores.{live_page, Holds, Fetches, Stored, StoredInSlot, UnitStores, OnlyStores, OnlyStoresAlong}
 use Rattle.ds_promise.proofs.Granted.{allowed_holds, allowed_offset}
 
 -- Lists of pages.
 
 -- a page after a change is the one that was put, or as it was
-pub set_cases : (ps : Pages) (i page : ℕ) (x : Option (List ℕ)) (new : List ℕ) → page_at (slice_set ps i x) page ≡ Some new → (page_at ps page ≡ Some new) ⊎ ((page ≡ i) × (x ≡ Some new))
+pub set_cases : (ps : Pages) (i page : ℕ) (x : Option (List ℕ)) (new : List ℕ) → live_page (slice_set ps i x) page ≡ Some new → (live_page ps page ≡ Some new) ⊎ ((page ≡ i) × (x ≡ Some new))
 set_cases [] i page x new e = inl e
 set_cases (b ∷ ps) zero zero x new e = inr (refl, e)
 set_cases (b ∷ ps) zero (suc page) x new e = inl e
@@ -52,16 +52,16 @@ none_is_not_some bs e = absurd (no bs e)
     no bs e = cc
 
 -- a page that lives, put anew
-pub set_lives : (ps : Pages) (i : ℕ) (old : List ℕ) (x : Option (List ℕ)) → page_at ps i ≡ Some old → page_at (slice_set ps i x) i ≡ x
+pub set_lives : (ps : Pages) (i : ℕ) (old : List ℕ) (x : Option (List ℕ)) → live_page ps i ≡ Some old → live_page (slice_set ps i x) i ≡ x
 set_lives [] i old x e = none_is_not_some old e
 set_lives (b ∷ ps) zero old x e = refl
 set_lives (b ∷ ps) (suc i) old x e = set_lives ps i old x e
 
 -- no page lives under the least number that no live page has
-pub fresh_is_free : (ps : Pages) → page_at ps (fresh ps) ≡ None
+pub fresh_is_free : (ps : Pages) → live_page ps (fresh ps) ≡ None
 fresh_is_free [] = refl
 fresh_is_free (None ∷ ps) = refl
-fresh_is_free (Some b ∷ ps) = subst (λ (i : ℕ). page_at (Some b ∷ ps) i ≡ None) (one_more (fresh ps)) (fresh_is_free ps)
+fresh_is_free (Some b ∷ ps) = subst (λ (i : ℕ). live_page (Some b ∷ ps) i ≡ None) (one_more (fresh ps)) (fresh_is_free ps)
   where
     one_more : (n : ℕ) → suc n ≡ n + 1
     one_more n = omega arith
@@ -71,13 +71,13 @@ cond_kept true x new e = e
 cond_kept false x new e = none_is_not_some new e
 
 -- what is kept was there
-pub kept_was : (ps : Pages) (table : Table) (named at page : ℕ) (new : List ℕ) → page_at (kept ps table named at) page ≡ Some new → page_at ps page ≡ Some new
+pub kept_was : (ps : Pages) (table : Table) (named at page : ℕ) (new : List ℕ) → live_page (kept ps table named at) page ≡ Some new → live_page ps page ≡ Some new
 kept_was [] table named at page new e = e
 kept_was (b ∷ ps) table named at zero new e = cond_kept (nat_lt at named || is_named_by table at) b new e
 kept_was (b ∷ ps) table named at (suc page) new e = kept_was ps table named (at + 1) page new e
 
 -- the bytes of a page that lives
-pub bytes_of_lives : (ps : Pages) (page : ℕ) (old : List ℕ) → page_at ps page ≡ Some old → bytes_of ps page ≡ old
+pub bytes_of_lives : (ps : Pages) (page : ℕ) (old : List ℕ) → live_page ps page ≡ Some old → bytes_of ps page ≡ old
 bytes_of_lives [] page old e = none_is_not_some old e
 bytes_of_lives (None ∷ ps) zero old e = none_is_not_some old e
 bytes_of_lives (Some b ∷ ps) zero old e = some b old e
@@ -86,18 +86,18 @@ bytes_of_lives (Some b ∷ ps) zero old e = some b old e
     some b old e = cc
 bytes_of_lives (b ∷ ps) (suc page) old e = bytes_of_lives ps page old e
 
-pub one_page : (ps : Pages) (page : ℕ) (old new : List ℕ) → page_at ps page ≡ Some old → page_at ps page ≡ Some new → new ≡ old
+pub one_page : (ps : Pages) (page : ℕ) (old new : List ℕ) → live_page ps page ≡ Some old → live_page ps page ≡ Some new → new ≡ old
 one_page ps page old new e f = sym (bytes_of_lives ps page new f) ∙ bytes_of_lives ps page old e
 
 -- Changes of the table.
 
 -- each page that lives after it lived before, with the same bytes
 abbrev pub Shrinks : Pages → Pages → Type 0
-Shrinks ps qs = (page : ℕ) (new : List ℕ) → page_at qs page ≡ Some new → page_at ps page ≡ Some new
+Shrinks ps qs = (page : ℕ) (new : List ℕ) → live_page qs page ≡ Some new → live_page ps page ≡ Some new
 
 -- or did not live before
 abbrev KeepsOrComes : Pages → Pages → Type 0
-KeepsOrComes ps qs = (page : ℕ) (new : List ℕ) → page_at qs page ≡ Some new → (page_at ps page ≡ Some new) ⊎ (page_at ps page ≡ None)
+KeepsOrComes ps qs = (page : ℕ) (new : List ℕ) → live_page qs page ≡ Some new → (live_page ps page ≡ Some new) ⊎ (live_page ps page ≡ None)
 
 same_pages : (ps : Pages) → Shrinks ps ps
 same_pages ps page new e = e
@@ -121,7 +121,7 @@ module _ (Q : Pages → Type 0) where
 copy_comes : (s : PageState) (x : Option (List ℕ)) → KeepsOrComes s.pages (slice_set s.pages (fresh s.pages) x)
 copy_comes s x page new e = elim (set_cases s.pages (fresh s.pages) page x new e) [
   | inl same ↦ inl same
-  | inr put ↦ inr (ap (page_at s.pages) put.0 ∙ fresh_is_free s.pages)
+  | inr put ↦ inr (ap (live_page s.pages) put.0 ∙ fresh_is_free s.pages)
 ]
 
 give_comes : (alive : ℕ → Bool) (s : PageState) (caller address receiver to mode : ℕ) → IfDone (KeepsOrComes s.pages) (give alive s caller address receiver to mode)
@@ -324,7 +324,7 @@ boundary_pages m = owed_boundary_pages m.owed m
 
 -- a page that lives before and after is the same, or stored to by the instruction at pc
 abbrev Changes : State → ℕ → ℕ → Pages → Type 0
-Changes m p pc qs = (page : ℕ) (old new : List ℕ) → page_at m.memory.pages page ≡ Some old → page_at qs page ≡ Some new → (new ≡ old) ⊎ Stored m p pc page old new
+Changes m p pc qs = (page : ℕ) (old new : List ℕ) → live_page m.memory.pages page ≡ Some old → live_page qs page ≡ Some new → (new ≡ old) ⊎ Stored m p pc page old new
 
 abbrev OutcomeChanges : State → ℕ → ℕ → Outcome → Type 0
 OutcomeChanges m p pc (Went t) = Changes m p pc t.memory.pages
@@ -352,7 +352,7 @@ stores_change m p pc size address value at offset asks allowed page old new e f 
             fetches = asks;
             allowed = subst (λ (o : ℕ). decide m.memory.table p Store size address ≡ Allowed page o) place (subst (λ (i : ℕ). decide m.memory.table p Store size address ≡ Allowed i offset) (sym put.0) allowed);
             granted = subst (Holds m.memory.table p Store address) (sym put.0) holds;
-            word = told bytes old new offset (address % 4096) value place (bytes_of_lives m.memory.pages at old (subst (λ (i : ℕ). page_at m.memory.pages i ≡ Some old) put.0 e)) put.1;
+            word = told bytes old new offset (address % 4096) value place (bytes_of_lives m.memory.pages at old (subst (λ (i : ℕ). live_page m.memory.pages i ≡ Some old) put.0 e)) put.1;
           })
     ]
   where
@@ -392,7 +392,7 @@ instruction_changes m p pc = fetched_by m p pc (decide m.memory.table p Fetch Wo
 -- Units.
 
 abbrev UnitChanges : State → ℕ → ℕ → Pages → Type 0
-UnitChanges m p pc qs = (page : ℕ) (old new : List ℕ) → page_at m.memory.pages page ≡ Some old → page_at qs page ≡ Some new → (new ≡ old) ⊎ (Stored m p pc page old new ⊎ StoredInSlot m p pc page old new)
+UnitChanges m p pc qs = (page : ℕ) (old new : List ℕ) → live_page m.memory.pages page ≡ Some old → live_page qs page ≡ Some new → (new ≡ old) ⊎ (Stored m p pc page old new ⊎ StoredInSlot m p pc page old new)
 
 slot_changes : (m : State) (p a pc target : ℕ) (o : Outcome) → OutcomeChanges m p pc o → Leaves m o → Changes m p pc (after_slot m p a pc target o).memory.pages
 slot_changes m p a pc target (Went t) k l = k
@@ -413,7 +413,7 @@ unit_changes m p pc (Went t) is k l = λ page old new e f. elim (k page old new 
 ]
 unit_changes m p pc (Branched t target) is k l = λ page old new e f.
     let slot = word (pc + 4) in
-    elim (slot_changes t p pc slot target (instruction t p slot) (instruction_changes t p slot) (leaves_instruction t p slot) page old new (ap (λ (s : PageState). page_at s.pages page) l.1 ∙ e) f) [
+    elim (slot_changes t p pc slot target (instruction t p slot) (instruction_changes t p slot) (leaves_instruction t p slot) page old new (ap (λ (s : PageState). live_page s.pages page) l.1 ∙ e) f) [
       | inl same ↦ inl same
       | inr s ↦ inr (inr (record { between = t; target = target; branched = is; memory = l.1; stored = s }))
     ]
@@ -422,7 +422,7 @@ unit_changes m p pc Called is k l =
     from_call m p pc _ (served_pages next p pc (call_of (process_of next p).registers.general))
 unit_changes m p pc (Stopped stop) is k l = λ page old new e f. inl (one_page m.memory.pages page old new e f)
 
-first_changes : (m : State) (ready : List ℕ) → m.ready ≡ ready → m.owed ≡ None → (page : ℕ) (old new : List ℕ) → page_at m.memory.pages page ≡ Some old → page_at (unit_of_first m ready).memory.pages page ≡ Some new → (new ≡ old) ⊎ UnitStores m page old new
+first_changes : (m : State) (ready : List ℕ) → m.ready ≡ ready → m.owed ≡ None → (page : ℕ) (old new : List ℕ) → live_page m.memory.pages page ≡ Some old → live_page (unit_of_first m ready).memory.pages page ≡ Some new → (new ≡ old) ⊎ UnitStores m page old new
 first_changes m [] is none page old new e f = inl (one_page m.memory.pages page old new e f)
 first_changes m (p ∷ rest) is none page old new e f =
     let pc = (process_of m p).pc in
@@ -466,7 +466,7 @@ half_only_stores b m = half_by m.owed (touched b m) (touched_owed b m)
 
 go_by : (on b : Bool) (m : State) → OnlyStores (touched b m) (cond on (half_turn b m) m)
 go_by true b m = half_only_stores b m
-go_by false b m = λ page old new e f. inl (one_page m.memory.pages page old new (ap (λ (s : PageState). page_at s.pages page) (sym (touched_memory b m)) ∙ e) f)
+go_by false b m = λ page old new e f. inl (one_page m.memory.pages page old new (ap (λ (s : PageState). live_page s.pages page) (sym (touched_memory b m)) ∙ e) f)
 
 pub along_only_stores : (n : ℕ) (choices : List Bool) (m : State) → OnlyStoresAlong n choices m
 unfolding after

@@ -10,7 +10,7 @@ use Rattle.ds_log.specs.declared.line.Line.{Line}
 use Rattle.ds_pagemap.specs.Machine.{State, Process, no_process, process_of, with_process, logged, made_ready, made_unready}
 use Rattle.ds_pagemap.specs.Unit.{with_registers, at_pc, ticked, settle}
 use Rattle.ds_promise.specs.Alike.{AreAlike}
-use Rattle.ds_promise.specs.Twins.{IsTwinProcess, AreTwins, IsTwin}
+use Rattle.ds_promise.specs.Inner.Twins.{IsTwinProcess, AreTwins, IsTwin}
 use Rattle.ds_promise.proofs.Quietness.{nat_cases, settled_alike}
 
 -- a state with other processes

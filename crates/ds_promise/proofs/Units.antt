@@ -23,8 +23,8 @@ use Rattle.ds_pagemap.specs.Machine.{State, Process, process_of, has_ended, live
 use Rattle.ds_pagemap.specs.Calls.{with_pages, ended, answered, or_number, or_denied, queue_of, after_put, after_get, after_wait, served}
 use Rattle.ds_pagemap.specs.Unit.{Stop, Outcome, Went, Branched, Called, Stopped, with_registers, where_allowed, stored, done, instruction, parked, after_slot, after_call, after_instruction, fault, unit_of_first, unit}
 use Rattle.ds_promise.specs.Alike.{AreAlike, DoAlike}
-use Rattle.ds_promise.specs.Twins.{AreTwins, IsTwin, OutcomesAlike}
-use Rattle.ds_promise.specs.Quiet.{quiet_where, quiet_at, quiet_behind, quiet_first}
+use Rattle.ds_promise.specs.Inner.Twins.{AreTwins, IsTwin, OutcomesAlike}
+use Rattle.ds_promise.specs.Quiet.{quiet_where, quiet_at, quiet_after, quiet_first}
 use Rattle.ds_promise.proofs.Quietness.{quiet, settled_alike, sets_alike}
 use Rattle.ds_promise.proofs.Twins.{twin, same, via, registers_alike, at_pc_alike, ticked_alike, logged_alike, settle_alike, ready_alike, unready_alike}
 
@@ -181,10 +181,10 @@ registers_of_twin a b p k = subst (λ (m : State). AreAlike (process_of a p).reg
 
 after_call_alike : (a b : State) (p pc : ℕ) → IsTwin a b → IsTwin (after_call a p pc) (after_call b p pc)
 after_call_alike a b p pc k =
-    let behind = at_pc_alike _ _ p (word (pc + 4)) (settle_alike a b p k) in
-    ticked_alike _ _ 1 (served_twins _ _ p pc _ _ behind (call_alike _ _ (registers_of_twin _ _ p behind)))
+    let afterwards = at_pc_alike _ _ p (word (pc + 4)) (settle_alike a b p k) in
+    ticked_alike _ _ 1 (served_twins _ _ p pc _ _ afterwards (call_alike _ _ (registers_of_twin _ _ p afterwards)))
 
-after_alike : (a b : State) (p pc : ℕ) (o u : Outcome) → IsTwin a b → OutcomesAlike o u → quiet_behind p pc o ≡ true → IsTwin (after_instruction a p pc o) (after_instruction b p pc u)
+after_alike : (a b : State) (p pc : ℕ) (o u : Outcome) → IsTwin a b → OutcomesAlike o u → quiet_after p pc o ≡ true → IsTwin (after_instruction a p pc o) (after_instruction b p pc u)
 after_alike a b p pc (Went m) (Went t) k s q = ticked_alike _ _ 1 (at_pc_alike m t p (word (pc + 4)) s)
 after_alike a b p pc (Branched m x) (Branched t y) k s q = after_slot_alike m t p pc (word (pc + 4)) x y _ _ s.0 s.1 (instruction_of_twin m t p (word (pc + 4)) s.0 q)
 after_alike a b p pc Called Called k s q = after_call_alike a b p pc k

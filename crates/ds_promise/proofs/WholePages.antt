@@ -14,7 +14,7 @@ use Rattle.ds_policy.specs.Pages.{Pages, Table, entries_of, found, entry_at, nam
 use Rattle.ds_policy.specs.Families.{without_entry, without_entries, cut_entry, forbid_entry}
 use Rattle.ds_policy.specs.Ends.{has_some_expired, expired_table, expired}
 use Rattle.ds_policy.specs.Grants.{PageState, ◌or_else◌, refused, not_page, is_some_right, has_right, no_right, no_entry, no_grant, table_full, fifth_region, no_frames, may_not_give, live_only, granted, removed, cut, forbidden_by, forbidden, shared_from, copied, given, give, take as take_back, drop_own, grant, narrow, revoke, drop_by_command, end_process}
-use Rattle.ds_promise.specs.Stores.{page_at}
+use Rattle.ds_promise.specs.Stores.{live_page}
 use Rattle.ds_promise.specs.Families.{AllHaveOwnAddresses}
 use Rattle.ds_promise.specs.Whole.{Lives, NamesLiving, ArePagesWhole}
 use Rattle.ds_promise.proofs.Entries.{false_is_not_true, or_first, or_second, one_grant, no_grant_found}
@@ -47,7 +47,7 @@ kept_here : (c : Bool) (x : Option (List ℕ)) → c ≡ true → cond c x None 
 kept_here true x e = refl
 kept_here false x e = false_is_not_true e
 
-kept_lives : (ps : Pages) (t : Table) (named at i : ℕ) (bytes : List ℕ) → page_at ps i ≡ Some bytes → (nat_lt (at + i) named || is_named_by t (at + i)) ≡ true → page_at (kept ps t named at) i ≡ Some bytes
+kept_lives : (ps : Pages) (t : Table) (named at i : ℕ) (bytes : List ℕ) → live_page ps i ≡ Some bytes → (nat_lt (at + i) named || is_named_by t (at + i)) ≡ true → live_page (kept ps t named at) i ≡ Some bytes
 kept_lives [] t named at i bytes e k = e
 kept_lives (b ∷ ps) t named at zero bytes e k = kept_here (nat_lt at named || is_named_by t at) b (subst (λ (n : ℕ). (nat_lt n named || is_named_by t n) ≡ true) (none_more at) k) ∙ e
   where
@@ -137,22 +137,22 @@ fresh_fits [] e = e
 fresh_fits (None ∷ ps) e = omega arith
 fresh_fits (Some b ∷ ps) e = let f = fresh_fits ps (omega (arith, e)) in omega (arith, f)
 
-pub set_same : (ps : Pages) (i : ℕ) (x : Option (List ℕ)) → i < length ps → page_at (slice_set ps i x) i ≡ x
+pub set_same : (ps : Pages) (i : ℕ) (x : Option (List ℕ)) → i < length ps → live_page (slice_set ps i x) i ≡ x
 set_same [] i x e = absurd (omega (arith, e))
 set_same (b ∷ ps) zero x e = refl
 set_same (b ∷ ps) (suc i) x e = set_same ps i x (omega (arith, e))
 
 -- a page that lives stays where another is put
-set_stays : (ps : Pages) (i page : ℕ) (x : Option (List ℕ)) (bytes : List ℕ) → page_at ps i ≡ None → page_at ps page ≡ Some bytes → page_at (slice_set ps i x) page ≡ Some bytes
+set_stays : (ps : Pages) (i page : ℕ) (x : Option (List ℕ)) (bytes : List ℕ) → live_page ps i ≡ None → live_page ps page ≡ Some bytes → live_page (slice_set ps i x) page ≡ Some bytes
 set_stays ps i page x bytes none e = elim (cases_eq page i) [
-  | inl is ↦ none_is_not_some bytes (sym none ∙ (ap (page_at ps) (sym is) ∙ e))
+  | inl is ↦ none_is_not_some bytes (sym none ∙ (ap (live_page ps) (sym is) ∙ e))
   | inr other ↦ get_or-set_other ps i page x None other ∙ e
 ]
 
 -- a page that lives still lives once the bytes of one are put anew
-pub still_lives : (ps : Pages) (i page : ℕ) (new old : List ℕ) → page_at ps i ≡ Some old → Lives ps page → Lives (slice_set ps i (Some new)) page
+pub still_lives : (ps : Pages) (i page : ℕ) (new old : List ℕ) → live_page ps i ≡ Some old → Lives ps page → Lives (slice_set ps i (Some new)) page
 still_lives ps i page new old e l = elim (cases_eq page i) [
-  | inl is ↦ (new, ap (page_at (slice_set ps i (Some new))) is ∙ set_lives ps i old (Some new) e)
+  | inl is ↦ (new, ap (live_page (slice_set ps i (Some new))) is ∙ set_lives ps i old (Some new) e)
   | inr other ↦ (l.0, get_or-set_other ps i page (Some new) None other ∙ l.1)
 ]
 
@@ -263,7 +263,7 @@ pub record IsCopyOf (s t : PageState) (caller a receiver to : ℕ) : Type 0 wher
   pub page : ℕ
   pub names : grant.page ≡ Some page
   pub bytes : List ℕ
-  pub holds : page_at s.pages page ≡ Some bytes
+  pub holds : live_page s.pages page ≡ Some bytes
   pub room : fresh s.pages < length s.pages
   pub is : t ≡ granted (record s { pages = slice_set s.pages (fresh s.pages) (Some bytes) }) receiver to (record grant { right = Write; page = Some (fresh s.pages); giver = caller; parent = None; until = None })
 

@@ -5,7 +5,7 @@ use Rattle.ds_isa.specs.declared.instr.Kind.TheVariants.{Load, Store}
 use Rattle.ds_policy.specs.declared.grant.Right.TheVariants.{Read}
 use Rattle.ds_policy.specs.declared.grant.Grant.{Grant}
 use Rattle.ds_policy.specs.Grants.{PageState}
-use Rattle.ds_promise.specs.Stores.{page_at, lets, Holds}
+use Rattle.ds_promise.specs.Stores.{live_page, lets, Holds}
 use Rattle.ds_promise.specs.Whole.{ArePagesWhole, OneWordDiffers}
 
 -- One word.
@@ -59,7 +59,7 @@ a_short_page_is_refused k = other (k.sizes 0 (replicate 4095 0) refl)
 pub a_grant_of_a_dead_page_is_refused : ArePagesWhole (one_page None) → ⊥
 a_grant_of_a_dead_page_is_refused k =
     let l = k.granted 1 0 of_page_0 refl refl in
-    none (subst (λ (page : ℕ). page_at (None ∷ []) page ≡ Some l.lives.0) (sym (first_page l.page l.names)) l.lives.1)
+    none (subst (λ (page : ℕ). live_page (None ∷ []) page ≡ Some l.lives.0) (sym (first_page l.page l.names)) l.lives.1)
   where
     first_page : (page : ℕ) → ◌≡◌ {A = Option ℕ} (Some 0) (Some page) → 0 ≡ page
     first_page page e = cc

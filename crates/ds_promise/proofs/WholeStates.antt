@@ -30,7 +30,7 @@ use Rattle.ds_pagemap.specs.Unit.{Outcome, Went, Branched, Called, Stopped, wher
 use Rattle.ds_pagemap.specs.Boundary.{after_commands, all_queued, wakes, woken, has_passed, is_first, rotated, boundary_after, boundary, owed_boundary}
 use Rattle.ds_pagemap.specs.Run.{half_turn, goes_on, after, Reaches}
 use Rattle.ds_pagemap.specs.Laws.{due}
-use Rattle.ds_promise.specs.Stores.{page_at}
+use Rattle.ds_promise.specs.Stores.{live_page}
 use Rattle.ds_promise.specs.Whole.{ArePagesWhole, HasWholePages}
 use Rattle.ds_promise.proofs.Stores.{set_cases, bytes_of_lives}
 use Rattle.ds_promise.proofs.Granted.{allowed_holds, allowed_offset, lets_something}
@@ -170,7 +170,7 @@ stored_whole m p size address page offset value k allowed =
     let h = allowed_holds m.memory.table p Store size address page offset allowed in
     let l = k.memory.granted p _ h.grant h.held (lets_something h.grant.right Store h.right) in
     let same : l.page ≡ page = one_number l.page page (sym l.names ∙ h.names) in
-    let lives : page_at m.memory.pages page ≡ Some l.lives.0 = subst (λ (i : ℕ). page_at m.memory.pages i ≡ Some l.lives.0) same l.lives.1 in
+    let lives : live_page m.memory.pages page ≡ Some l.lives.0 = subst (λ (i : ℕ). live_page m.memory.pages i ≡ Some l.lives.0) same l.lives.1 in
     let bytes = bytes_of m.memory.pages page in
     let new = with_word bytes offset (value (word_at bytes offset)) in
     let long : length new ≡ 4096 = long_new bytes offset (value (word_at bytes offset)) (ap (λ (bs : List ℕ). length bs) (bytes_of_lives m.memory.pages page l.lives.0 lives) ∙ k.memory.sizes page l.lives.0 lives) (subst (λ (i : ℕ). i < 4096) (sym (allowed_offset m.memory.table p Store size address page offset allowed)) (small address)) in

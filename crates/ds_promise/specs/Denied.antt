@@ -40,8 +40,8 @@ pub record IsParkedAt (m : State) (p pc : ℕ) : Type 0 where
   pub at : (process_of m p).pc ≡ pc
 
 -- what ends a unit in its slot: a stop, a branch or a call
-abbrev pub EndsUnit : Outcome → Type 0
-EndsUnit (Went after) = ⊥
-EndsUnit (Branched after target) = Unit {0}
-EndsUnit Called = Unit {0}
-EndsUnit (Stopped stop) = Unit {0}
+abbrev pub EndsInSlot : Outcome → Type 0
+EndsInSlot (Went after) = ⊥
+EndsInSlot (Branched after target) = Unit {0}
+EndsInSlot Called = Unit {0}
+EndsInSlot (Stopped stop) = Unit {0}

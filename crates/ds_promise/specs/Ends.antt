@@ -18,7 +18,7 @@ use Rattle.ds_pagemap.specs.Unit.{Outcome, Went, Branched, Called, Stopped, inst
 use Rattle.ds_pagemap.specs.Run.{goes_on, after}
 use Rattle.ds_pagemap.specs.Laws.{due}
 use Rattle.ds_promise.specs.Stores.{Holds}
-use Rattle.ds_promise.specs.Lines.{refusal, refusal_of, after_ends}
+use Rattle.ds_promise.specs.Lines.{refused_by, command_refusal, after_ends}
 
 -- no entry has a right that ends at this time or earlier
 abbrev pub NoneHasEnded : ℕ → Table → Type 0
@@ -46,13 +46,13 @@ grants_at q b (command.Stop process) = false
 abbrev pub commands_grant : State → List TimedCommand → ℕ → ℕ → Bool
 commands_grant m [] q b = false
 commands_grant m (c ∷ rest) q b =
-    (grants_at q b c.command && not (is_some (refusal_of m c.number c.command)))
+    (grants_at q b c.command && not (is_some (command_refusal m c.number c.command)))
     || commands_grant (after_command m c.number c.command) rest q b
 
 -- the call of process p gives something to process q at an address, and isn't refused
 abbrev pub call_grants : State → ℕ → Call → ℕ → ℕ → Bool
 call_grants m p (call.Give address receiver to mode) q b =
-    (receiver == q && to == b) && not (is_some (refusal (give (lives m) m.memory p address receiver to mode)))
+    (receiver == q && to == b) && not (is_some (refused_by (give (lives m) m.memory p address receiver to mode)))
 call_grants m p other q b = false
 
 -- of all that an instruction of process p comes to, a call alone can give

@@ -10,4 +10,4 @@ pub mod Rows
 pub mod Alike
 pub mod Twins
 pub mod Quiet
-pub mod QuietRows
+pub mod Inner

@@ -23,16 +23,16 @@ abbrev pub quiet_at : State → ℕ → ℕ → Bool
 quiet_at m p pc = quiet_where m p (decide m.memory.table p Fetch Word pc)
 
 -- the instruction in the slot after a branch is quiet; after others there is no slot
-abbrev pub quiet_behind : ℕ → ℕ → Outcome → Bool
-quiet_behind p pc (Branched m target) = quiet_at m p (word (pc + 4))
-quiet_behind p pc (Went m) = true
-quiet_behind p pc Called = true
-quiet_behind p pc (Stopped stop) = true
+abbrev pub quiet_after : ℕ → ℕ → Outcome → Bool
+quiet_after p pc (Branched m target) = quiet_at m p (word (pc + 4))
+quiet_after p pc (Went m) = true
+quiet_after p pc Called = true
+quiet_after p pc (Stopped stop) = true
 
 -- the unit of the first ready process, if one is ready, is quiet
 abbrev pub quiet_first : State → List ℕ → Bool
 quiet_first m [] = true
-quiet_first m (p ∷ rest) = let pc = (process_of m p).pc in quiet_at m p pc && quiet_behind p pc (instruction m p pc)
+quiet_first m (p ∷ rest) = let pc = (process_of m p).pc in quiet_at m p pc && quiet_after p pc (instruction m p pc)
 
 -- the unit that comes next, if one does, is quiet
 abbrev pub is_quiet_half_turn : State → Bool

@@ -1,4 +1,5 @@
 -- The definitions worked out: each row is a theorem about the definitions alone.
+pub mod QuietRows
 use Rattle.std.proofs.Common.{inl, inr}
 use Rattle.std.specs.Prelude.{◌≡◌, refl, ℕ, Bool, true, false, List, [], ◌∷◌, ◌++◌, replicate, Some, None}
 use Rattle.ds_word.specs.Bytes.{word_at}
@@ -18,7 +19,7 @@ use Rattle.ds_log.specs.declared.line.Denied.TheVariants as denied
 use Rattle.ds_pagemap.specs.Machine.{State, process_of}
 use Rattle.ds_pagemap.specs.Run.{half_turn, after}
 use Rattle.ds_pagemap.specs.Rows.{run_on_literals, policy, data_at, first, plain, at}
-use Rattle.ds_promise.specs.Stores.{page_at, UnitStores}
+use Rattle.ds_promise.specs.Stores.{live_page, UnitStores}
 use Rattle.ds_promise.specs.Lines.{lines_along}
 use Rattle.ds_promise.specs.Denied.{InstructionStops}
 use Rattle.ds_promise.specs.Whole.{UnitCopies}
@@ -78,11 +79,11 @@ storing = after 100 (replicate 2 false) (first (policy 0x00400000 (data_at 0x004
 abbrev pub written : List ℕ
 written = replicate 4 0 ++ (0 ∷ 0 ∷ 0x41 ∷ 0 ∷ []) ++ replicate 4088 0
 
-pub the_page_is_zero_before : page_at storing.memory.pages 1 ≡ Some (replicate 4096 0)
+pub the_page_is_zero_before : live_page storing.memory.pages 1 ≡ Some (replicate 4096 0)
 unfolding run_on_literals
 the_page_is_zero_before = refl
 
-pub the_page_has_the_word_after_it : page_at (half_turn false storing).memory.pages 1 ≡ Some written
+pub the_page_has_the_word_after_it : live_page (half_turn false storing).memory.pages 1 ≡ Some written
 unfolding run_on_literals
 the_page_has_the_word_after_it = refl
 
@@ -124,7 +125,7 @@ pub the_other_may_not_write_it : decide sharing.memory.table 2 Store Word 0x0042
 unfolding run_on_literals
 the_other_may_not_write_it = refl
 
-pub its_page_is_changed_for_both : page_at (half_turn false sharing).memory.pages 1 ≡ Some written
+pub its_page_is_changed_for_both : live_page (half_turn false sharing).memory.pages 1 ≡ Some written
 unfolding run_on_literals
 its_page_is_changed_for_both = refl
 
@@ -163,11 +164,11 @@ giving = after 100 (replicate 12 false) (first copying ("lui $8,0x41" ∷ "lui $
 abbrev given_away : State
 given_away = after 100 (replicate 2 false) giving
 
-pub the_copy_is_a_new_page : page_at giving.memory.pages 2 ≡ None
+pub the_copy_is_a_new_page : live_page giving.memory.pages 2 ≡ None
 unfolding run_on_literals
 the_copy_is_a_new_page = refl
 
-pub the_copy_has_the_bytes : page_at given_away.memory.pages 2 ≡ Some (replicate 4096 0)
+pub the_copy_has_the_bytes : live_page given_away.memory.pages 2 ≡ Some (replicate 4096 0)
 unfolding run_on_literals
 the_copy_has_the_bytes = refl
 
@@ -175,11 +176,11 @@ pub the_receiver_may_write_the_copy : entry_at given_away.memory.table 2 0x00500
 unfolding run_on_literals
 the_receiver_may_write_the_copy = refl
 
-pub a_store_changes_the_page : page_at (half_turn false given_away).memory.pages 1 ≡ Some written
+pub a_store_changes_the_page : live_page (half_turn false given_away).memory.pages 1 ≡ Some written
 unfolding run_on_literals
 a_store_changes_the_page = refl
 
-pub and_not_its_copy : page_at (half_turn false given_away).memory.pages 2 ≡ Some (replicate 4096 0)
+pub and_not_its_copy : live_page (half_turn false given_away).memory.pages 2 ≡ Some (replicate 4096 0)
 unfolding run_on_literals
 and_not_its_copy = refl
 

@@ -6,7 +6,7 @@ use Rattle.ds_policy.specs.Pages.{entry_at}
 use Rattle.ds_policy.specs.Grants.{is_some_right}
 use Rattle.ds_pagemap.specs.Machine.{State, process_of}
 use Rattle.ds_pagemap.specs.Unit.{Stop, Outcome, Went, Branched, Called, Stopped, with_registers, stored}
-use Rattle.ds_promise.specs.Stores.{page_at}
+use Rattle.ds_promise.specs.Stores.{live_page}
 
 -- Process p is in both, with the same registers, address and entries, and each page that an entry
 -- of its own lets it read or write has the same bytes; there is room for as many pages.
@@ -17,7 +17,7 @@ pub record LookAlike (p : ℕ) (m t : State) : Type 0 where
   pub registers : (process_of m p).registers ≡ (process_of t p).registers
   pub pc : (process_of m p).pc ≡ (process_of t p).pc
   pub entries : (address : ℕ) → entry_at m.memory.table p address ≡ entry_at t.memory.table p address
-  pub pages : (address page : ℕ) (g : Grant) → entry_at m.memory.table p address ≡ Some g → is_some_right g.right ≡ true → g.page ≡ Some page → page_at m.memory.pages page ≡ page_at t.memory.pages page
+  pub pages : (address page : ℕ) (g : Grant) → entry_at m.memory.table p address ≡ Some g → is_some_right g.right ≡ true → g.page ≡ Some page → live_page m.memory.pages page ≡ live_page t.memory.pages page
   pub room : length m.memory.pages ≡ length t.memory.pages
 
 -- what an instruction does, whatever else the state holds

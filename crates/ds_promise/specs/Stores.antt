@@ -18,8 +18,8 @@ use Rattle.ds_pagemap.specs.Unit.{Branched, instruction}
 use Rattle.ds_pagemap.specs.Run.{goes_on, after}
 
 -- the bytes of a page, if it lives
-abbrev pub page_at : Pages → ℕ → Option (List ℕ)
-page_at pages page = slice_index_or pages page None
+abbrev pub live_page : Pages → ℕ → Option (List ℕ)
+live_page pages page = slice_index_or pages page None
 
 -- whether a right lets an access of this kind be done
 abbrev pub lets : Right → Kind → Bool
@@ -71,7 +71,7 @@ pub record UnitStores (m : State) (page : ℕ) (old new : List ℕ) : Type 0 whe
 
 -- a page that lives before and after has the same bytes, or the unit that ran stored there
 abbrev pub OnlyStores : State → State → Type 0
-OnlyStores m t = (page : ℕ) (old new : List ℕ) → page_at m.memory.pages page ≡ Some old → page_at t.memory.pages page ≡ Some new → (new ≡ old) ⊎ UnitStores m page old new
+OnlyStores m t = (page : ℕ) (old new : List ℕ) → live_page m.memory.pages page ≡ Some old → live_page t.memory.pages page ≡ Some new → (new ≡ old) ⊎ UnitStores m page old new
 
 -- the same of each half turn of a run
 abbrev pub OnlyStoresAlong : ℕ → List Bool → State → Type 0
@@ -83,8 +83,8 @@ pub record StoresThere (n : ℕ) (touch : Bool) (earlier : List Bool) (m : State
   pub old : List ℕ
   pub new : List ℕ
   pub on : goes_on n (after n earlier m) ≡ true
-  pub lives_before : page_at (after n earlier m).memory.pages page ≡ Some old
-  pub lives_after : page_at (after n (touch ∷ earlier) m).memory.pages page ≡ Some new
+  pub lives_before : live_page (after n earlier m).memory.pages page ≡ Some old
+  pub lives_after : live_page (after n (touch ∷ earlier) m).memory.pages page ≡ Some new
   pub stores : UnitStores (touched touch (after n earlier m)) page old new
 
 -- somewhere along a run a unit stores on the page
@@ -94,5 +94,5 @@ StoresAlong n (touch ∷ earlier) m page = StoresThere n touch earlier m page �
 
 -- somewhere along a run the page does not live
 abbrev pub DiesAlong : ℕ → List Bool → State → ℕ → Type 0
-DiesAlong n [] m page = page_at m.memory.pages page ≡ None
-DiesAlong n (touch ∷ earlier) m page = (page_at (after n (touch ∷ earlier) m).memory.pages page ≡ None) ⊎ DiesAlong n earlier m page
+DiesAlong n [] m page = live_page m.memory.pages page ≡ None
+DiesAlong n (touch ∷ earlier) m page = (live_page (after n (touch ∷ earlier) m).memory.pages page ≡ None) ⊎ DiesAlong n earlier m page

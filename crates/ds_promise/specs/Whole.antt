@@ -10,12 +10,12 @@ use Rattle.ds_policy.specs.InputFacts.{AreGoodCommands}
 use Rattle.ds_pagemap.specs.Machine.{State, process_of, touched}
 use Rattle.ds_pagemap.specs.Unit.{Called, instruction}
 use Rattle.ds_pagemap.specs.Run.{after}
-use Rattle.ds_promise.specs.Stores.{page_at, UnitStores}
+use Rattle.ds_promise.specs.Stores.{live_page, UnitStores}
 use Rattle.ds_promise.specs.Families.{AllHaveOwnAddresses}
 
 -- the page lives
 abbrev pub Lives : Pages → ℕ → Type 0
-Lives pages page = (bytes : List ℕ) × (page_at pages page ≡ Some bytes)
+Lives pages page = (bytes : List ℕ) × (live_page pages page ≡ Some bytes)
 
 -- the grant names a page that lives
 pub record NamesLiving (pages : Pages) (g : Grant) : Type 0 where
@@ -26,7 +26,7 @@ pub record NamesLiving (pages : Pages) (g : Grant) : Type 0 where
 -- each page that lives has 4096 bytes; each page of the policy lives, and so does each page that is
 -- granted; no process has two entries at one address
 pub record ArePagesWhole (s : PageState) : Type 0 where
-  pub sizes : (page : ℕ) (bytes : List ℕ) → page_at s.pages page ≡ Some bytes → length bytes ≡ 4096
+  pub sizes : (page : ℕ) (bytes : List ℕ) → live_page s.pages page ≡ Some bytes → length bytes ≡ 4096
   pub named : (page : ℕ) → page < s.named → Lives s.pages page
   pub granted : (p address : ℕ) (g : Grant) → entry_at s.table p address ≡ Some g → is_some_right g.right ≡ true → NamesLiving s.pages g
   pub places : AllHaveOwnAddresses s.table
@@ -51,15 +51,15 @@ pub record HoldsBytes (m : State) (p address : ℕ) (bytes : List ℕ) : Type 0 
   pub right : is_some_right grant.right ≡ true
   pub page : ℕ
   pub names : grant.page ≡ Some page
-  pub holds : page_at m.memory.pages page ≡ Some bytes
+  pub holds : live_page m.memory.pages page ≡ Some bytes
 
 -- a new page of t has the bytes that the giver's page had in m, and the receiver may write it
 pub record IsCopied (m t : State) (p address receiver to : ℕ) : Type 0 where
   pub bytes : List ℕ
   pub given : HoldsBytes m p address bytes
   pub copy : ℕ
-  pub new : page_at m.memory.pages copy ≡ None
-  pub same : page_at t.memory.pages copy ≡ Some bytes
+  pub new : live_page m.memory.pages copy ≡ None
+  pub same : live_page t.memory.pages copy ≡ Some bytes
   pub entry : entry_at t.memory.table receiver to ≡ Some (record given.grant { right = Write; page = Some copy; giver = p; parent = None; until = None })
 
 -- no boundary is owed, and the first ready process gives a copy of a page of its own with these bytes
@@ -78,19 +78,19 @@ pub record UnitCopies (m : State) (bytes : List ℕ) : Type 0 where
 -- the page lived, and the unit that runs stores these bytes on it, of which one word is new
 pub record IsStoredTo (m : State) (page : ℕ) (new : List ℕ) : Type 0 where
   pub old : List ℕ
-  pub before : page_at m.memory.pages page ≡ Some old
+  pub before : live_page m.memory.pages page ≡ Some old
   pub stores : UnitStores m page old new
   pub word : OneWordDiffers old new
 
 -- the page didn't live, and the unit that runs copies these bytes
 pub record IsNewCopy (m : State) (page : ℕ) (new : List ℕ) : Type 0 where
-  pub before : page_at m.memory.pages page ≡ None
+  pub before : live_page m.memory.pages page ≡ None
   pub copies : UnitCopies m new
 
 -- each page that lives afterwards is as it was, or was stored to, or is a new copy
 abbrev pub ChangesAsGranted : State → State → Type 0
-ChangesAsGranted m t = (page : ℕ) (new : List ℕ) → page_at t.memory.pages page ≡ Some new
-    → (page_at m.memory.pages page ≡ Some new) ⊎ (IsStoredTo m page new ⊎ IsNewCopy m page new)
+ChangesAsGranted m t = (page : ℕ) (new : List ℕ) → live_page t.memory.pages page ≡ Some new
+    → (live_page m.memory.pages page ≡ Some new) ⊎ (IsStoredTo m page new ⊎ IsNewCopy m page new)
 
 -- the same of each half turn of a run
 abbrev pub ChangesAsGrantedAlong : ℕ → List Bool → State → Type 0

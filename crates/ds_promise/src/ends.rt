@@ -36,7 +36,7 @@ ghost use Rattle.ds_pagemap.specs.Laws.{due};
 ghost use Rattle.ds_pagemap_laws.specs.Lawful.{IsLawful};
 ghost use Rattle.ds_promise.specs.Families.{CameOf, IsOutOfReach};
 ghost use Rattle.ds_promise.specs.Whole.{HasWholePages};
-ghost use Rattle.ds_promise.specs.Lines.{refusal, after_ends};
+ghost use Rattle.ds_promise.specs.Lines.{refused_by, after_ends};
 ghost use Rattle.ds_promise.specs.Ends.{IsInTime, HoldsInTime, EndsWithParents, grants_along};
 
 /// In each state of a run in which a unit is next, each right ends later than the state's time, if it
@@ -69,12 +69,12 @@ pub fn what_has_ended_is_out_of_reach_until_it_is_granted_anew()
 /// What a give shares ends as the entry that it was shared from, and a copy never.
 pub fn a_share_has_its_givers_end()
     ensures share { (m : State) (p pc address receiver to mode : ℕ) (g h : Grant) → mode ≢ 3 →
-        refusal (give (lives m) m.memory p address receiver to mode) ≡ None →
+        refused_by (give (lives m) m.memory p address receiver to mode) ≡ None →
         entry_at m.memory.table p address ≡ Some g →
         entry_at (served m p pc (Give address receiver to mode)).memory.table receiver to ≡ Some h →
         h.until ≡ g.until }
     ensures copy { (m : State) (p pc address receiver to : ℕ) (h : Grant) →
-        refusal (give (lives m) m.memory p address receiver to 3) ≡ None →
+        refused_by (give (lives m) m.memory p address receiver to 3) ≡ None →
         entry_at (served m p pc (Give address receiver to 3)).memory.table receiver to ≡ Some h →
         h.until ≡ None }
 {}

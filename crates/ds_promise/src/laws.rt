@@ -28,16 +28,9 @@ ghost use Rattle.ds_policy.specs.Pages.{entry_at};
 ghost use Rattle.ds_policy.specs.Grants.{is_some_right};
 ghost use Rattle.ds_pagemap.specs.Run.{half_turn, after, Reaches};
 ghost use Rattle.ds_pagemap.specs.Unit.{Stop, Branched, Called, Stopped, instruction, unit};
-ghost use Rattle.ds_promise.specs.Stores.{
-  OnlyStores,
-  OnlyStoresAlong,
-  StoresAlong,
-  DiesAlong,
-  Stored,
-  page_at,
-};
+ghost use Rattle.ds_promise.specs.Stores.{OnlyStores, OnlyStoresAlong, StoresAlong, DiesAlong, Stored, live_page};
 ghost use Rattle.ds_promise.specs.Answers.{CallsAlike, answer_of, with_answer};
-ghost use Rattle.ds_promise.specs.Denied.{InstructionStops, IsParkedAt, EndsUnit};
+ghost use Rattle.ds_promise.specs.Denied.{InstructionStops, IsParkedAt, EndsInSlot};
 ghost use Rattle.ds_promise.specs.Lines.{lines_of_turn, lines_along};
 ghost use Rattle.ds_promise.specs.Whole.{OneWordDiffers};
 ghost use Rattle.ds_promise.specs.Seen.{LookAlike, BySameAction, StayAlike};
@@ -49,8 +42,8 @@ pub fn only_a_granted_store_changes_a_page()
     ensures half { (b : Bool) (m : State) → OnlyStores (touched b m) (half_turn b m) }
     ensures run { (n : ℕ) (choices : List Bool) (m : State) → OnlyStoresAlong n choices m }
     ensures ends { (n : ℕ) (choices : List Bool) (m : State) (page : ℕ) (old new : List ℕ) →
-        page_at m.memory.pages page ≡ Some old →
-        page_at (after n choices m).memory.pages page ≡ Some new →
+        live_page m.memory.pages page ≡ Some old →
+        live_page (after n choices m).memory.pages page ≡ Some new →
         (new ≡ old) ⊎ (StoresAlong n choices m page ⊎ DiesAlong n choices m page) }
     ensures word { (m : State) (p pc page : ℕ) (old new : List ℕ) → Stored m p pc page old new →
         length old ≡ 4096 → OneWordDiffers old new }
@@ -121,6 +114,6 @@ pub fn an_instruction_stops_exactly_where_it_is_denied()
     ensures slot { (m t : State) (p target : ℕ) (rest : List ℕ) → 0 < p →
         p ≤ length m.processes → m.ready ≡ p ∷ rest →
         instruction m p (process_of m p).pc ≡ Branched t target →
-        EndsUnit (instruction t p (word ((process_of m p).pc + 4))) →
+        EndsInSlot (instruction t p (word ((process_of m p).pc + 4))) →
         IsParkedAt (unit m) p (process_of m p).pc }
 {}

@@ -8,15 +8,9 @@ ghost use Rattle.ds_pagemap.specs.Machine.{State, lives, touched};
 ghost use Rattle.ds_pagemap.specs.Calls.{served};
 ghost use Rattle.ds_pagemap.specs.Inputs.{Sources, inputs, inputs_under};
 ghost use Rattle.ds_pagemap.specs.Run.{half_turn, Reaches};
-ghost use Rattle.ds_promise.specs.Stores.{page_at};
-ghost use Rattle.ds_promise.specs.Lines.{refusal};
-ghost use Rattle.ds_promise.specs.Whole.{
-  HasWholePages,
-  UnitCopies,
-  IsCopied,
-  ChangesAsGranted,
-  ChangesAsGrantedAlong,
-};
+ghost use Rattle.ds_promise.specs.Stores.{live_page};
+ghost use Rattle.ds_promise.specs.Lines.{refused_by};
+ghost use Rattle.ds_promise.specs.Whole.{HasWholePages, UnitCopies, IsCopied, ChangesAsGranted, ChangesAsGrantedAlong};
 
 /// In each state of a run a page that lives has 4096 bytes, and what is granted lives.
 pub fn pages_stay_whole()
@@ -39,8 +33,8 @@ pub fn pages_change_only_as_granted()
         (first : State) (choices : List Bool) → inputs text sources input n random ≡ Ok first →
         ChangesAsGrantedAlong n choices first }
     ensures comes { (b : Bool) (m : State) (page : ℕ) (new : List ℕ) → HasWholePages m →
-        page_at m.memory.pages page ≡ None →
-        page_at (half_turn b m).memory.pages page ≡ Some new → UnitCopies (touched b m) new }
+        live_page m.memory.pages page ≡ None →
+        live_page (half_turn b m).memory.pages page ≡ Some new → UnitCopies (touched b m) new }
 {}
 
 /// A give by mode 3 that is not refused makes a page of the receiver's own, with the bytes that the
@@ -48,6 +42,6 @@ pub fn pages_change_only_as_granted()
 pub fn a_copy_has_the_bytes_of_that_moment()
     ensures { (m : State) (p pc address receiver to : ℕ) → HasWholePages m →
         length m.memory.table ≡ length m.processes →
-        refusal (give (lives m) m.memory p address receiver to 3) ≡ None →
+        refused_by (give (lives m) m.memory p address receiver to 3) ≡ None →
         IsCopied m (served m p pc (Give address receiver to 3)) p address receiver to }
 {}

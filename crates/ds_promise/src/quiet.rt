@@ -6,7 +6,7 @@ ghost use Rattle.ds_isa.specs.Meaning.{meaning};
 ghost use Rattle.ds_pagemap.specs.Machine.{State};
 ghost use Rattle.ds_pagemap.specs.Run.{goes_on, after, Ends};
 ghost use Rattle.ds_pagemap.specs.Inputs.{Sources, inputs};
-ghost use Rattle.ds_pagemap.specs.Text.{text_of};
+ghost use Rattle.ds_pagemap.specs.Text.{state_text};
 ghost use Rattle.ds_promise.specs.Alike.{AreAlike, DoAlike, is_quiet};
 ghost use Rattle.ds_promise.specs.Quiet.{quiet_halves, IsQuiet};
 ghost use Rattle.ds_promise.specs.Twins.{HaveRegisters};
@@ -21,10 +21,10 @@ pub fn quiet_instructions_do_alike()
 /// write one text.
 pub fn quiet_runs_look_alike()
     ensures untouched { (n : ℕ) (m t : State) → HaveRegisters m → IsQuiet n m → Ends n m t →
-        (k : ℕ) × (text_of t ≡ text_of (after n (replicate k false) m))
+        (k : ℕ) × (state_text t ≡ state_text (after n (replicate k false) m))
         × (goes_on n (after n (replicate k false) m) ≡ false) }
     ensures one { (n : ℕ) (m t u : State) → HaveRegisters m → IsQuiet n m →
-        Ends n m t → Ends n m u → text_of t ≡ text_of u }
+        Ends n m t → Ends n m u → state_text t ≡ state_text u }
 {}
 
 /// A run is quiet where so many half turns of it are, computed one after the other, and it has
@@ -46,5 +46,5 @@ pub fn the_start_of_random_is_not_seen()
         inputs text sources input n s ≡ Ok o → m ≡ o }
     ensures text { (text : List ℕ) (sources : Sources) (input : List ℕ) (n r s : ℕ)
         (m o t u : State) → inputs text sources input n r ≡ Ok m →
-        inputs text sources input n s ≡ Ok o → IsQuiet n m → Ends n m t → Ends n o u → text_of t ≡ text_of u }
+        inputs text sources input n s ≡ Ok o → IsQuiet n m → Ends n m t → Ends n o u → state_text t ≡ state_text u }
 {}

@@ -6,15 +6,8 @@ ghost use Rattle.ds_policy.specs.Pages.{entry_at};
 ghost use Rattle.ds_policy.specs.Grants.{give, take, drop_own, forbidden_by};
 ghost use Rattle.ds_pagemap.specs.Machine.{State, lives};
 ghost use Rattle.ds_pagemap.specs.Calls.{served, after_command};
-ghost use Rattle.ds_promise.specs.Lines.{refusal, refusal_of};
-ghost use Rattle.ds_promise.specs.Families.{
-  AllHaveOwnAddresses,
-  CameOf,
-  IsOrCameOf,
-  IsOutOfReach,
-  PassesOn,
-  HandsOn,
-};
+ghost use Rattle.ds_promise.specs.Lines.{refused_by, command_refusal};
+ghost use Rattle.ds_promise.specs.Families.{AllHaveOwnAddresses, CameOf, IsOrCameOf, IsOutOfReach, PassesOn, HandsOn};
 
 /// A take that is not refused leaves neither the entry that it names nor any that came of that one by
 /// sharing, however long the way: nothing in their pages is allowed any more. Every other entry is as
@@ -22,16 +15,16 @@ ghost use Rattle.ds_promise.specs.Families.{
 pub fn what_is_taken_back_is_out_of_reach()
     ensures gone { (m : State) (p pc holder address q b : ℕ) →
         AllHaveOwnAddresses m.memory.table →
-        refusal (take (lives m) m.memory p holder address) ≡ None →
+        refused_by (take (lives m) m.memory p holder address) ≡ None →
         IsOrCameOf m.memory.table holder address q b →
         entry_at (served m p pc (call.Take holder address)).memory.table q b ≡ None }
     ensures reach { (m : State) (p pc holder address q b : ℕ) →
         AllHaveOwnAddresses m.memory.table →
-        refusal (take (lives m) m.memory p holder address) ≡ None →
+        refused_by (take (lives m) m.memory p holder address) ≡ None →
         IsOrCameOf m.memory.table holder address q b →
         IsOutOfReach (served m p pc (call.Take holder address)).memory.table q b }
     ensures others { (m : State) (p pc holder address q b : ℕ) → 0 < q →
-        refusal (take (lives m) m.memory p holder address) ≡ None →
+        refused_by (take (lives m) m.memory p holder address) ≡ None →
         (IsOrCameOf m.memory.table holder address q b → ⊥) →
         entry_at (served m p pc (call.Take holder address)).memory.table q b
         ≡ entry_at m.memory.table q b }
@@ -42,16 +35,16 @@ pub fn what_is_taken_back_is_out_of_reach()
 /// is allowed any more. Every other entry is as it was.
 pub fn what_is_revoked_is_out_of_reach()
     ensures left { (m : State) (k holder address q b : ℕ) →
-        refusal_of m k (command.Revoke holder address) ≡ None →
+        command_refusal m k (command.Revoke holder address) ≡ None →
         IsOrCameOf m.memory.table holder address q b →
         entry_at (after_command m k (command.Revoke holder address)).memory.table q b
         ≡ Some (forbidden_by (1000 + k)) }
     ensures reach { (m : State) (k holder address q b : ℕ) →
-        refusal_of m k (command.Revoke holder address) ≡ None →
+        command_refusal m k (command.Revoke holder address) ≡ None →
         IsOrCameOf m.memory.table holder address q b →
         IsOutOfReach (after_command m k (command.Revoke holder address)).memory.table q b }
     ensures others { (m : State) (k holder address q b : ℕ) → 0 < q →
-        refusal_of m k (command.Revoke holder address) ≡ None →
+        command_refusal m k (command.Revoke holder address) ≡ None →
         (IsOrCameOf m.memory.table holder address q b → ⊥) →
         entry_at (after_command m k (command.Revoke holder address)).memory.table q b
         ≡ entry_at m.memory.table q b }
@@ -60,7 +53,7 @@ pub fn what_is_revoked_is_out_of_reach()
 /// A copy came of no entry, so no take and no revoke of another entry reaches it.
 pub fn a_copy_is_not_reached()
     ensures { (m : State) (p pc address receiver to holder at : ℕ) →
-        refusal (give (lives m) m.memory p address receiver to 3) ≡ None →
+        refused_by (give (lives m) m.memory p address receiver to 3) ≡ None →
         CameOf (served m p pc (call.Give address receiver to 3)).memory.table holder at receiver to → ⊥ }
 {}
 
@@ -68,10 +61,10 @@ pub fn a_copy_is_not_reached()
 /// then as if it was shared from the one above it.
 pub fn a_drop_hands_shares_to_the_one_above()
     ensures call { (m : State) (p pc address : ℕ) → 0 < p →
-        refusal (drop_own m.memory p address) ≡ None →
+        refused_by (drop_own m.memory p address) ≡ None →
         PassesOn m.memory.table (served m p pc (call.Drop address)).memory.table p address }
     ensures command { (m : State) (k p address : ℕ) →
-        refusal_of m k (command.Drop p address) ≡ None →
+        command_refusal m k (command.Drop p address) ≡ None →
         PassesOn m.memory.table (after_command m k (command.Drop p address)).memory.table p address }
 {}
 

@@ -18,11 +18,11 @@ use Rattle.ds_dev.specs.Bus.{BusState, lines, is_memory, answers, load}
 use Rattle.ds_core.specs.Core.{CoreState, trapped, with_tick}
 use Rattle.ds_core.specs.Access.{reached, mode_of}
 use Rattle.ds_core.specs.Coprocessor.{usable, unusable}
-use Rattle.ds_core.specs.Effect.{step, instruction, fetched_from, fetch_answered, executed}
+use Rattle.ds_core.specs.Effect.{step, instruction_step, fetched_from, fetch_answered, executed}
 use Rattle.ds_cp0.specs.declared.exception.ExceptionCode.TheVariants.{Interrupt}
 use Rattle.ds_refill.specs.Handler.{HasWords}
-use Rattle.ds_refill.specs.Refill.{IsKernel}
-use Rattle.ds_refill.specs.Refill as refill
+use Rattle.ds_refill.specs.Inner.Refill.{IsKernel}
+use Rattle.ds_refill.specs.Inner.Refill as refill
 
 -- no interrupt where they are off
 off : (s : System) (p q : Bool) → bits s.status 0 1 ≡ 0 → is_pending s p q ≡ false
@@ -33,7 +33,7 @@ at_place : (c : CoreState) (b : BusState) (pc place w : ℕ) → IsKernel c.syst
     → (pc % 4 == 0) ≡ true → ((es : List Entry) (asid : ℕ) → translate es asid Kernel Fetch pc ≡ Ok (at_physical place)) → is_memory place ≡ true
     → word_at b.memory place ≡ w → step c b ≡ with_tick (executed c b (instruction_of w))
 at_place c b pc place w k at aligned direct here is =
-    ap (λ (p : Bool). cond p (trapped c b Interrupt) (with_tick (instruction c b))) (off c.system (lines b).0 (lines b).1 k.off)
+    ap (λ (p : Bool). cond p (trapped c b Interrupt) (with_tick (instruction_step c b))) (off c.system (lines b).0 (lines b).1 k.off)
     ∙ ap with_tick (
     ap (λ (a : ℕ). fetched_from c b (reached c Fetch Word a)) at
     ∙ ap (λ (p : Bool). fetched_from c b (cond (not p) (Err Address) (translate c.entries (asid_of c.system) (mode_of c.system) Fetch pc))) aligned

@@ -6,9 +6,10 @@ use Rattle.std.proofs.lemmas.List.{get_or-set_same, get_or-set_other, set-set, s
 use Rattle.std.specs.Prelude.{slice_index}
 use Rattle.ds_isa.specs.declared.instr.Late.{Late}
 use Rattle.ds_isa.specs.Registers.{Registers, settled}
-use Rattle.ds_tlb.specs.Entries.{ticked}
+use Rattle.ds_tlb.specs.Entries.{random_after}
 use Rattle.ds_core.specs.Core.{CoreState}
-use Rattle.ds_refill.specs.Refill.{lent, at_word}
+use Rattle.ds_refill.specs.Refill.{lent}
+use Rattle.ds_refill.specs.Inner.Refill.{at_word}
 
 pub apart : ◌≢◌ {A = ℕ} 27 26
 apart = λ (e : ◌≡◌ {A = ℕ} 27 26). omega arith
@@ -42,16 +43,16 @@ lent_itself r =
 
 -- Random stays among the slots from 8 to 63.
 
-pub ticked_low : (r : ℕ) → 8 ≤ r → r < 64 → 8 ≤ ticked 64 8 r
+pub ticked_low : (r : ℕ) → 8 ≤ r → r < 64 → 8 ≤ random_after 64 8 r
 ticked_low r low high = elim (cases_eq r 8) [
-  | inl at ↦ (let e : ticked 64 8 r ≡ 63 = ap (λ (b : Bool). cond b 63 (r - 1)) (let t : (r == 8) ≡ true = grind (arith, nat_tests) in t) in omega arith)
-  | inr above ↦ (let e : ticked 64 8 r ≡ r - 1 = ap (λ (b : Bool). cond b 63 (r - 1)) (let t : (r == 8) ≡ false = grind (arith, nat_tests) in t) in omega arith)
+  | inl at ↦ (let e : random_after 64 8 r ≡ 63 = ap (λ (b : Bool). cond b 63 (r - 1)) (let t : (r == 8) ≡ true = grind (arith, nat_tests) in t) in omega arith)
+  | inr above ↦ (let e : random_after 64 8 r ≡ r - 1 = ap (λ (b : Bool). cond b 63 (r - 1)) (let t : (r == 8) ≡ false = grind (arith, nat_tests) in t) in omega arith)
 ]
 
-pub ticked_high : (r : ℕ) → 8 ≤ r → r < 64 → ticked 64 8 r < 64
+pub ticked_high : (r : ℕ) → 8 ≤ r → r < 64 → random_after 64 8 r < 64
 ticked_high r low high = elim (cases_eq r 8) [
-  | inl at ↦ (let e : ticked 64 8 r ≡ 63 = ap (λ (b : Bool). cond b 63 (r - 1)) (let t : (r == 8) ≡ true = grind (arith, nat_tests) in t) in omega arith)
-  | inr above ↦ (let e : ticked 64 8 r ≡ r - 1 = ap (λ (b : Bool). cond b 63 (r - 1)) (let t : (r == 8) ≡ false = grind (arith, nat_tests) in t) in omega arith)
+  | inl at ↦ (let e : random_after 64 8 r ≡ 63 = ap (λ (b : Bool). cond b 63 (r - 1)) (let t : (r == 8) ≡ true = grind (arith, nat_tests) in t) in omega arith)
+  | inr above ↦ (let e : random_after 64 8 r ≡ r - 1 = ap (λ (b : Bool). cond b 63 (r - 1)) (let t : (r == 8) ≡ false = grind (arith, nat_tests) in t) in omega arith)
 ]
 
 -- The processor by its seven values.

@@ -14,9 +14,10 @@ use Rattle.ds_amap.specs.Map.{translate, at_physical}
 use Rattle.ds_dev.specs.Bus.{BusState, is_memory}
 use Rattle.ds_core.specs.Core.{CoreState}
 use Rattle.ds_refill.specs.Handler.{HasWords}
-use Rattle.ds_refill.specs.Refill.{IsKernel, lent, at_word, later, handler_events}
+use Rattle.ds_refill.specs.Refill.{lent}
+use Rattle.ds_refill.specs.Inner.Refill.{IsKernel, at_word, later, handler_events}
 use Rattle.ds_refill.proofs.Whole.{word_0, word_1, word_2, word_3, word_4, word_5, word_6, word_7, word_8}
-use Rattle.ds_refill.specs.Refills.{after_refill, CanLoad, RunsInside}
+use Rattle.ds_refill.specs.Inner.Refills.{after_refill, CanLoad, RunsInside}
 use Rattle.ds_refill.proofs.Lent.{lent_itself, is_at_word}
 
 -- registers without a late load

@@ -8,7 +8,8 @@ use Rattle.ds_word.specs.Bytes.{word_at, with_word}
 use Rattle.ds_mem.specs.Memory.{frame_of}
 use Rattle.ds_word.proofs.Bytes.{word_at-with_word, word_at-with_word_apart, length-with_word, long-with_word}
 use Rattle.ds_mem.proofs.Words.{frame_of-with_word_apart}
-use Rattle.ds_refill.specs.Handler.{words, with_words, HasWords}
+use Rattle.ds_refill.specs.Handler.{words, HasWords}
+use Rattle.ds_refill.specs.Inner.Handler.{with_words}
 
 -- whether each is a word
 abbrev are_words : List ℕ → Bool

@@ -4,7 +4,8 @@ use Rattle.ds_isa.specs.Registers.{zero_registers}
 use Rattle.ds_cp0.specs.System.{at_start, entered}
 use Rattle.ds_dev.specs.Bus.{BusState}
 use Rattle.ds_core.specs.Core.{CoreState}
-use Rattle.ds_refill.specs.Refill.{cleared, jumped, lent, at_word, later, table_miss}
+use Rattle.ds_refill.specs.Refill.{lent}
+use Rattle.ds_refill.specs.Inner.Refill.{cleared, jumped, at_word, later, table_miss}
 
 -- the handler before its sixth word: a page-table word in register 26, the program's address in register 27
 abbrev lending : CoreState

@@ -1,7 +1,8 @@
 //! The words, where they stand, and which of them comes next at an address.
 ghost use Rattle.std.specs.Prelude.{◌≡◌, ℕ, ◌<◌, ◌↔◌, Some};
 ghost use Rattle.ds_mem.specs.Memory.{frame_of};
-ghost use Rattle.ds_refill.specs.Handler.{words, with_words, HasWords, address_of, phase_of};
+ghost use Rattle.ds_refill.specs.Handler.{words, HasWords, handler_address};
+ghost use Rattle.ds_refill.specs.Inner.Handler.{with_words, phase_of};
 
 use ds_mem::Memory;
 
@@ -36,7 +37,7 @@ pub fn install(memory: &mut Memory)
 /// The place in `WORDS`, 0 to 8, of the word at an address, where one of them stands there.
 pub fn phase(pc: u32) -> Option<usize>
     ensures value { result ≡ phase_of pc }
-    ensures exact { (k : ℕ) → (result ≡ Some k) ↔ ((k < 9) × (pc ≡ address_of k)) }
+    ensures exact { (k : ℕ) → (result ≡ Some k) ↔ ((k < 9) × (pc ≡ handler_address k)) }
 {
     if pc < FIRST || pc % 4 != 0 {
         return None;

@@ -4,7 +4,7 @@ ghost use Rattle.ds_word.specs.Word.{word};
 ghost use Rattle.ds_isa.specs.declared.instr.Late.{Late};
 ghost use Rattle.ds_isa.specs.Registers.{Registers};
 ghost use Rattle.ds_tlb.specs.declared.entry.Entry.{Entry};
-ghost use Rattle.ds_tlb.specs.Entries.{ticked};
+ghost use Rattle.ds_tlb.specs.Entries.{random_after};
 ghost use Rattle.ds_word.specs.Bytes.{word_at};
 ghost use Rattle.ds_cp0.specs.System.{System, asid_of, entered, returned};
 ghost use Rattle.ds_cp0.specs.declared.exception.ExceptionCode.TheVariants.{LoadMiss};
@@ -17,7 +17,8 @@ ghost use Rattle.ds_core.specs.declared.event.Event.TheVariants.{Raised, Branche
 ghost use Rattle.ds_tlb.specs.Words.{entry_of};
 ghost use Rattle.ds_core.specs.Effect.{step};
 ghost use Rattle.ds_refill.specs.Handler.{HasWords};
-ghost use Rattle.ds_refill.specs.Refill.{IsKernel, lent, at_word, later, late_of, table_miss, went, RunsBy, handler_events};
+ghost use Rattle.ds_refill.specs.Refill.{lent, late_of};
+ghost use Rattle.ds_refill.specs.Inner.Refill.{IsKernel, at_word, later, table_miss, went, RunsBy, handler_events};
 
 /// In kernel mode with interrupts off, each word of the handler that stands at its place does its
 /// part, and leaves all else of the processor as it is but Random: Context goes to register 26, EPC
@@ -30,13 +31,13 @@ pub fn each_word_does_its_part()
         → HasWords b.memory → IsKernel s → length r.general ≡ 32
         → step (at_word 0x80000000 0x80000004 false (lent r x y None) s es random) b
         ≡ went (at_word 0x80000004 0x80000008 false (lent r s.context y (late_of 26 x)) s es
-        (ticked 64 8 random)) b }
+        (random_after 64 8 random)) b }
     ensures address { (r : Registers) (x y : ℕ) (late : Option Late) (s : System) (es : List Entry)
         (random : ℕ) (b : BusState)
         → HasWords b.memory → IsKernel s → length r.general ≡ 32
         → step (at_word 0x80000004 0x80000008 false (lent r x y late) s es random) b
         ≡ went (at_word 0x80000008 0x8000000C false (lent r x s.epc (late_of 27 y)) s es
-        (ticked 64 8 random)) b }
+        (random_after 64 8 random)) b }
     ensures load { (r : Registers) (x y old : ℕ) (s : System) (es : List Entry) (random place w : ℕ)
         (b : BusState)
         → HasWords b.memory → IsKernel s → length r.general ≡ 32 → x < 2 ^ 32 → x % 4 ≡ 0
@@ -44,37 +45,37 @@ pub fn each_word_does_its_part()
         → word_at b.memory place ≡ w
         → step (at_word 0x80000008 0x8000000C false (lent r x y (late_of 27 old)) s es random) b
         ≡ went (at_word 0x8000000C 0x80000010 false (lent r w y (late_of 26 x)) s es
-        (ticked 64 8 random)) b }
+        (random_after 64 8 random)) b }
     ensures pause { (r : Registers) (x y : ℕ) (late : Option Late) (s : System) (es : List Entry)
         (random : ℕ) (b : BusState)
         → HasWords b.memory → IsKernel s
         → step (at_word 0x8000000C 0x80000010 false (lent r x y late) s es random) b
-        ≡ went (at_word 0x80000010 0x80000014 false (lent r x y None) s es (ticked 64 8 random)) b }
+        ≡ went (at_word 0x80000010 0x80000014 false (lent r x y None) s es (random_after 64 8 random)) b }
     ensures entry_lo { (r : Registers) (x y : ℕ) (s : System) (es : List Entry) (random : ℕ)
         (b : BusState)
         → HasWords b.memory → IsKernel s → length r.general ≡ 32 → x < 2 ^ 32 → x % 256 ≡ 0
         → step (at_word 0x80000010 0x80000014 false (lent r x y None) s es random) b
         ≡ went (at_word 0x80000014 0x80000018 false (lent r x y None) (record s { entry_lo = x }) es
-        (ticked 64 8 random)) b }
+        (random_after 64 8 random)) b }
     ensures clear { (r : Registers) (x y : ℕ) (s : System) (es : List Entry) (random : ℕ)
         (b : BusState)
         → HasWords b.memory → IsKernel s → slice_index r.general 0 ≡ 0
         → step (at_word 0x80000014 0x80000018 false (lent r x y None) s es random) b
-        ≡ went (at_word 0x80000018 0x8000001C false (lent r 0 y None) s es (ticked 64 8 random)) b }
+        ≡ went (at_word 0x80000018 0x8000001C false (lent r 0 y None) s es (random_after 64 8 random)) b }
     ensures write { (r : Registers) (x y : ℕ) (s : System) (es : List Entry) (random : ℕ)
         (b : BusState)
         → HasWords b.memory → IsKernel s
         → step (at_word 0x80000018 0x8000001C false (lent r x y None) s es random) b
         ≡ went (at_word 0x8000001C 0x80000020 false (lent r x y None) s
         (slice_set es random (entry_of s.entry_hi s.entry_lo))
-        (ticked 64 8 random)) b }
+        (random_after 64 8 random)) b }
     ensures jump { (r : Registers) (x y : ℕ) (s : System) (es : List Entry) (random : ℕ)
         (b : BusState)
         → HasWords b.memory → IsKernel s → length r.general ≡ 32
         → step (at_word 0x8000001C 0x80000020 false (lent r x y None) s es random) b
         ≡ record {
           event = Branched;
-          core = at_word 0x80000020 y true (lent r x y None) s es (ticked 64 8 random);
+          core = at_word 0x80000020 y true (lent r x y None) s es (random_after 64 8 random);
           bus = b;
         } }
     ensures mode { (r : Registers) (x y pc : ℕ) (s : System) (es : List Entry) (random : ℕ)
@@ -82,7 +83,7 @@ pub fn each_word_does_its_part()
         → HasWords b.memory → IsKernel s
         → step (at_word 0x80000020 pc true (lent r x y None) s es random) b
         ≡ went (at_word pc (word (pc + 4)) false (lent r x y None) (returned s) es
-        (ticked 64 8 random)) b }
+        (random_after 64 8 random)) b }
 {}
 
 /// Where the page-table word can be loaded, nine words put its entry into the slot where Random
@@ -114,7 +115,7 @@ pub fn a_table_may_be_missed()
         ≡ record {
           event = Raised LoadMiss;
           core = at_word 0x80000080 0x80000084 false (lent r x y None) (entered s (table_miss x)) es
-              (ticked 64 8 random);
+              (random_after 64 8 random);
           bus = b;
         } }
 {}

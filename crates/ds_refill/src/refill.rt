@@ -1,11 +1,11 @@
 //! A whole refill at once: what the nine words of the handler make of the processor.
 ghost use Rattle.std.specs.Prelude.{◌≡◌, ◌%◌, ◌<◌, false, None, IfSome, IsSome, IsNone, length, slice_index};
-ghost use Rattle.ds_tlb.specs.Entries.{passed};
+ghost use Rattle.ds_tlb.specs.Inner.Entries.{passed};
 ghost use Rattle.ds_refill.specs.Handler.{HasWords};
-ghost use Rattle.ds_refill.specs.Refill.{IsKernel, handler_events};
-ghost use Rattle.ds_refill.specs.Refills.{after_refill, CanLoad, RunsInside};
+ghost use Rattle.ds_refill.specs.Inner.Refill.{IsKernel, handler_events};
+ghost use Rattle.ds_refill.specs.Inner.Refills.{after_refill, CanLoad, RunsInside};
 
-use ds_amap::{Access, Mode, Physical, reach};
+use ds_amap::{Kind, Mode, Physical, reach};
 use ds_core::Core;
 use ds_cp0::register;
 use ds_dev::Bus;
@@ -36,21 +36,21 @@ pub fn refill_at_once<L: Lookaside>(core: &mut Core<L>, bus: &Bus) -> Option<usi
     ensures high { IfSome result (λ slot. slot < 64) }
     ensures still { IsNone result → core.new ≡ core.old }
 {
-    look_at_registers(core);
+    show_register_zero(core);
     let word = table_word(core, bus)?;
     Some(put(core, word))
 }
 
 /// There are 32 registers, of which the first is 0.
-fn look_at_registers<L: Lookaside>(core: &Core<L>)
+fn show_register_zero<L: Lookaside>(core: &Core<L>)
     ensures size { length core.now.registers.general ≡ 32 }
     ensures nought { slice_index core.now.registers.general 0 ≡ 0 }
 {
-    look_at_size(&core.registers);
+    show_32_registers(&core.registers);
 }
 
 /// There are 32 of them.
-fn look_at_size(registers: &[u32; 32])
+fn show_32_registers(registers: &[u32; 32])
     ensures { length registers.now ≡ 32 }
 {
     let _last = registers[31];
@@ -68,7 +68,7 @@ fn table_word<L: Lookaside>(core: &mut Core<L>, bus: &Bus) -> Option<u32>
     if address % 4 != 0 {
         return None;
     }
-    match reach(address, Access::Load, Mode::Kernel, &mut core.tlb, asid) {
+    match reach(address, Kind::Load, Mode::Kernel, &mut core.tlb, asid) {
         Ok(Physical(place)) => {
             if place as usize >= SIZE {
                 return None;

@@ -14,7 +14,7 @@ use Rattle.ds_isa.specs.Access.{is_store, is_aligned}
 use Rattle.ds_policy.specs.Pages.{decide, bytes_of}
 use Rattle.ds_policy.specs.Grants.{PageState}
 use Rattle.ds_tlb.specs.declared.entry.Entry.{Entry}
-use Rattle.ds_tlb.specs.Entries.{find, matches, ticked}
+use Rattle.ds_tlb.specs.Entries.{find, matches, random_after}
 use Rattle.ds_amap.specs.declared.map.Physical.{Physical}
 use Rattle.ds_amap.specs.declared.map.Fault.{Fault}
 use Rattle.ds_amap.specs.declared.map.Fault.TheVariants.{Address, Refill, Invalid, Modified}
@@ -22,12 +22,12 @@ use Rattle.ds_amap.specs.Map.{through, through_slot, through_found, is_modified,
 use Rattle.ds_cp0.specs.declared.exception.Exception.{Exception}
 use Rattle.ds_cp0.specs.declared.exception.ExceptionCode.{ExceptionCode}
 use Rattle.ds_cp0.specs.declared.exception.ExceptionCode.TheVariants.{Interrupt, Modification, LoadMiss, StoreMiss, LoadAddress, StoreAddress, FetchBus, DataBus, SystemCall, Breakpoint, ReservedInstruction, CoprocessorUnusable, Overflow}
-use Rattle.ds_cp0.specs.Codes.{is_translation, number_of}
+use Rattle.ds_cp0.specs.Codes.{is_translation, code_number}
 use Rattle.ds_cp0.specs.System.{System, entered, asid_of, is_user, is_kuseg, pushed, with_field}
 use Rattle.ds_core.specs.declared.event.Event.TheVariants as event
 use Rattle.ds_core.specs.Core as core
 use Rattle.ds_core.specs.Core.{CoreState, core_at_vector, with_tick, trapped}
-use Rattle.ds_core.specs.Access.{reached, refusal, code_of, is_refill, mode_of}
+use Rattle.ds_core.specs.Access.{reached, access_exception, code_of, is_refill, mode_of}
 use Rattle.ds_core.specs.Effect as whole
 use Rattle.ds_pagemap.specs.Machine.{State, process_of}
 use Rattle.ds_pagemap.specs.Unit.{instruction, with_registers}
@@ -44,11 +44,11 @@ use Rattle.ds_refinement.proofs.Links.{branches_again}
 use Rattle.ds_refinement.specs.Told.{code_in}
 use Rattle.ds_refinement.proofs.Exceptions.{code_told, space_told, status_told}
 use Rattle.ds_refinement.proofs.Resting.{rests}
-use Rattle.ds_refinement.specs.Course.{Ask, Fetch, Slot, Access, asked, Place, Begun, InItsSlot, AtWord, AtModification, AtService, Work, Course}
-use Rattle.ds_refinement.specs.CourseSteps.{counted as counted_work, IsUsers, Next, Branches, Misses, MissesInSlot, Modifies, Traps}
+use Rattle.ds_refinement.specs.Course.{Ask, Fetch, Slot, Access, asked, UnitPlace, Begun, InItsSlot, AtWord, AtModification, AtService, Work, Course}
+use Rattle.ds_refinement.specs.Inner.CourseSteps.{counted as counted_work, IsUsers, Next, Branches, Misses, MissesInSlot, Modifies, Traps}
 use Rattle.ds_refinement.specs.Counts.{Counts, one_more, place_by, work_of, course_of}
-use Rattle.ds_refinement.specs.Needs.{page_of, asked_at, data_page, pages_of}
-use Rattle.ds_refinement.specs.Asks.{Fetches, Asks, IsRefused, Turns, Leaves, Does, IsMissed, IsModified, TellsClean}
+use Rattle.ds_refinement.specs.Needs.{page_of_address, asked_at, data_page, pages_of_unit}
+use Rattle.ds_refinement.specs.Inner.Asks.{Fetches, Asks, IsRefused, Turns, Leaves, IsUnitStep, IsMissed, IsModified, TellsClean}
 use Rattle.ds_refinement.proofs.Walk.{does}
 use Rattle.ds_refinement.proofs.Needed.{no_branch, first_asks, slot_asks}
 
@@ -155,7 +155,7 @@ mode_user s user = rw user refl
 page_in : (w a : ℕ) → nat_lt a (2 ^ 31) ≡ true → bits (with_field w 12 20 (bits a 12 20)) 12 20 ≡ a / 2 ^ 12
 page_in w a low = let below : a < 2 ^ 31 = grind (arith, nat_tests) in omega (arith, below)
 
-pub shows : (c : CoreState) (access : Kind) (address : ℕ) → (entered c.system (refusal c access address Refill)).entry_hi ≡ with_field c.system.entry_hi 12 20 (bits address 12 20)
+pub shows : (c : CoreState) (access : Kind) (address : ℕ) → (entered c.system (access_exception c access address Refill)).entry_hi ≡ with_field c.system.entry_hi 12 20 (bits address 12 20)
 shows c kind.Fetch address = refl
 shows c kind.Load address = refl
 shows c kind.Store address = refl
@@ -163,7 +163,7 @@ shows c kind.Store address = refl
 raised_alike : (a b : ExceptionCode) → event.Raised a ≡ event.Raised b → a ≡ b
 raised_alike a b e = cc
 
-code_1 : (code : ExceptionCode) → (number_of code == 1) ≡ true → code ≡ Modification
+code_1 : (code : ExceptionCode) → (code_number code == 1) ≡ true → code ≡ Modification
 code_1 Modification is = refl
 code_1 Interrupt is = absurd cc
 code_1 LoadMiss is = absurd cc
@@ -213,16 +213,16 @@ module _ (h : Held) (m : State) (p : ℕ) (rest : List ℕ) (k : Agrees h m) (re
         small = a.small;
       }
 
-  does_here : Does h.core here p s
+  does_here : IsUnitStep h.core here p s
   does_here =
-      let quiet : whole.step h.core h.bus ≡ with_tick (whole.instruction h.core h.bus) =
-      ap (λ (b : Bool). cond b (trapped h.core h.bus Interrupt) (with_tick (whole.instruction h.core h.bus))) (rests h.bus h.kept h.core.system k.devices mode) in
-      subst (Does h.core here p) (sym (is ∙ quiet)) (does h.core h.bus here p (sym (registers_put m p h.core.registers running.seat)) mode fetches)
+      let quiet : whole.step h.core h.bus ≡ with_tick (whole.instruction_step h.core h.bus) =
+      ap (λ (b : Bool). cond b (trapped h.core h.bus Interrupt) (with_tick (whole.instruction_step h.core h.bus))) (rests h.bus h.kept h.core.system k.devices mode) in
+      subst (IsUnitStep h.core here p) (sym (is ∙ quiet)) (does h.core h.bus here p (sym (registers_put m p h.core.registers running.seat)) mode fetches)
 
   leaves_here : (code : ExceptionCode) → s.event ≡ event.Raised code → Leaves h.core here p s
   leaves_here code raised = by_does does_here
     where
-      by_does : Does h.core here p s → Leaves h.core here p s
+      by_does : IsUnitStep h.core here p s → Leaves h.core here p s
       by_does (inl r) = let wrong : event.Retired ≡ event.Raised code = sym r.event ∙ raised in absurd cc
       by_does (inr (inl t)) = let wrong : event.Branched ≡ event.Raised code = sym t.event ∙ raised in absurd cc
       by_does (inr (inr l)) = l
@@ -239,21 +239,21 @@ module _ (h : Held) (m : State) (p : ℕ) (rest : List ℕ) (k : Agrees h m) (re
             (ap (instruction here p) a.pc ∙ (branches_again m p (process_of m p).pc h.core.registers again.2.target running.seat again.1 again.2.branched ∙ again.2.branched)))
       ]
 
-  data_is : (page : ℕ) → asked_at here p h.core.pc ≡ Some page → (pages_of m p).access ≡ page
+  data_is : (page : ℕ) → asked_at here p h.core.pc ≡ Some page → (pages_of_unit m p).access ≡ page
   data_is page asks = ap (λ (o : Option ℕ). unwrap_or o 0) (data_asked page asks)
 
   -- what the unit asks for by an access
-  ask_by : (access : Kind) (address : ℕ) → Asks access h.core here p address → (ask : Ask) × (h.core.slot ≡ true → ask ≢ Fetch) × (asked (pages_of m p) ask ≡ page_of address)
+  ask_by : (access : Kind) (address : ℕ) → Asks access h.core here p address → (ask : Ask) × (h.core.slot ≡ true → ask ≢ Fetch) × (asked (pages_of_unit m p) ask ≡ page_of_address address)
   ask_by kind.Fetch address asks = by_slot h.core.slot refl on
     where
-      by_slot : (slot : Bool) → h.core.slot ≡ slot → OnProcessor true slot h.core h.kept p m → (ask : Ask) × (h.core.slot ≡ true → ask ≢ Fetch) × (asked (pages_of m p) ask ≡ page_of address)
-      by_slot true e a = (Slot, (λ _. (λ (f : Slot ≡ Fetch). cc)), ap page_of (sym (asks ∙ a.pc)))
-      by_slot false e a = (Fetch, (λ t. (let wrong : false ≡ true = sym e ∙ t in absurd cc)), ap page_of (sym (asks ∙ a.pc)))
-  ask_by kind.Load address asks = (Access, (λ _. (λ (f : Access ≡ Fetch). cc)), data_is (page_of address) asks)
-  ask_by kind.Store address asks = (Access, (λ _. (λ (f : Access ≡ Fetch). cc)), data_is (page_of address) asks)
+      by_slot : (slot : Bool) → h.core.slot ≡ slot → OnProcessor true slot h.core h.kept p m → (ask : Ask) × (h.core.slot ≡ true → ask ≢ Fetch) × (asked (pages_of_unit m p) ask ≡ page_of_address address)
+      by_slot true e a = (Slot, (λ _. (λ (f : Slot ≡ Fetch). cc)), ap page_of_address (sym (asks ∙ a.pc)))
+      by_slot false e a = (Fetch, (λ t. (let wrong : false ≡ true = sym e ∙ t in absurd cc)), ap page_of_address (sym (asks ∙ a.pc)))
+  ask_by kind.Load address asks = (Access, (λ _. (λ (f : Access ≡ Fetch). cc)), data_is (page_of_address address) asks)
+  ask_by kind.Store address asks = (Access, (λ _. (λ (f : Access ≡ Fetch). cc)), data_is (page_of_address address) asks)
 
   missed_of : (what : Exception) → IsRefused h.core here p what → what.miss ≡ true → is_kuseg what.addr ≡ true → s.core.system ≡ entered h.core.system what
-      → IsMissed h.core.slot (pages_of m p) h.core.entries (asid_of h.core.system) s.core.system
+      → IsMissed h.core.slot (pages_of_unit m p) h.core.entries (asid_of h.core.system) s.core.system
   missed_of what r misses low there =
       let refill : r.fault ≡ Refill = refill_is r.fault (sym (ap (λ (e : Exception). e.miss) r.is) ∙ misses) in
       let below : nat_lt r.address (2 ^ 31) ≡ true = sym (ap (λ (e : Exception). is_kuseg e.addr) r.is) ∙ low in
@@ -262,13 +262,13 @@ module _ (h : Held) (m : State) (p : ℕ) (rest : List ℕ) (k : Agrees h m) (re
       record {
         ask = a.0;
         fits = a.1;
-        page = ap (λ (t : System). bits t.entry_hi 12 20) (there ∙ ap (entered h.core.system) (r.is ∙ ap (refusal h.core r.kind r.address) refill))
+        page = ap (λ (t : System). bits t.entry_hi 12 20) (there ∙ ap (entered h.core.system) (r.is ∙ ap (access_exception h.core r.kind r.address) refill))
             ∙ (ap (λ (w : ℕ). bits w 12 20) (shows h.core r.kind r.address) ∙ (page_in h.core.system.entry_hi r.address below ∙ sym a.2));
         none = subst (λ (page : ℕ). find h.core.entries page (asid_of h.core.system) ≡ None) (sym a.2) none;
       }
 
   -- a miss is of a page that the unit asks for
-  pub miss_asks : (code : ExceptionCode) → s.event ≡ event.Raised code → s.core.pc ≡ 0x80000000 → IsMissed h.core.slot (pages_of m p) h.core.entries (asid_of h.core.system) s.core.system
+  pub miss_asks : (code : ExceptionCode) → s.event ≡ event.Raised code → s.core.pc ≡ 0x80000000 → IsMissed h.core.slot (pages_of_unit m p) h.core.entries (asid_of h.core.system) s.core.system
   miss_asks code raised at =
       let l = leaves_here code raised in
       let tells = by_vector l.what.miss (is_kuseg l.what.addr) (sym (ap (λ (c : CoreState). c.pc) l.core) ∙ at) in
@@ -277,19 +277,19 @@ module _ (h : Held) (m : State) (p : ℕ) (rest : List ℕ) (k : Agrees h m) (re
         | inr none ↦ (let wrong : false ≡ true = sym (ap is_kuseg none.0) ∙ tells.1 in absurd cc)
       ]
 
-  modified_of : (what : Exception) → IsRefused h.core here p what → what.code ≡ Modification → s.core.system ≡ entered h.core.system what → IsModified (pages_of m p) h.core.entries (asid_of h.core.system) s.core.system
+  modified_of : (what : Exception) → IsRefused h.core here p what → what.code ≡ Modification → s.core.system ≡ entered h.core.system what → IsModified (pages_of_unit m p) h.core.entries (asid_of h.core.system) s.core.system
   modified_of what r code there =
       let fault : r.fault ≡ Modified = modified_is r.fault (is_store r.kind) (sym (ap (λ (e : Exception). e.code) r.is) ∙ code) in
       let clean = modified h.core r.kind r.size r.address (r.reaches ∙ ap (λ (f : Fault). Err f) fault) in
-      let asks : asked_at here p h.core.pc ≡ Some (page_of r.address) = subst (λ (access : Kind). Asks access h.core here p r.address) clean.1 r.asks in
-      let page = data_is (page_of r.address) asks in
+      let asks : asked_at here p h.core.pc ≡ Some (page_of_address r.address) = subst (λ (access : Kind). Asks access h.core here p r.address) clean.1 r.asks in
+      let page = data_is (page_of_address r.address) asks in
       let below = lower (nat_le (2 ^ 31) r.address) (map_user (mode_of h.core.system)) (mode_user h.core.system user) clean.2 in
       of_clean r.address page
-      (ap (λ (t : System). bits t.entry_hi 12 20) (there ∙ ap (entered h.core.system) (r.is ∙ ap (refusal h.core r.kind r.address) fault))
+      (ap (λ (t : System). bits t.entry_hi 12 20) (there ∙ ap (entered h.core.system) (r.is ∙ ap (access_exception h.core r.kind r.address) fault))
       ∙ (ap (λ (w : ℕ). bits w 12 20) (shows_store h.core r.kind r.address) ∙ (page_below h.core.system.entry_hi r.address below ∙ sym page))) clean.0
     where
-      of_clean : (address : ℕ) → (pages_of m p).access ≡ page_of address → bits s.core.system.entry_hi 12 20 ≡ (pages_of m p).access → Clean h.core.entries (page_of address) (asid_of h.core.system)
-          → IsModified (pages_of m p) h.core.entries (asid_of h.core.system) s.core.system
+      of_clean : (address : ℕ) → (pages_of_unit m p).access ≡ page_of_address address → bits s.core.system.entry_hi 12 20 ≡ (pages_of_unit m p).access → Clean h.core.entries (page_of_address address) (asid_of h.core.system)
+          → IsModified (pages_of_unit m p) h.core.entries (asid_of h.core.system) s.core.system
       of_clean address page hi clean = record {
         page = hi;
         slot = clean.0;
@@ -300,7 +300,7 @@ module _ (h : Held) (m : State) (p : ℕ) (rest : List ℕ) (k : Agrees h m) (re
       }
 
   -- and a refused store is of the data's page
-  pub store_asks : s.event ≡ event.Raised Modification → IsModified (pages_of m p) h.core.entries (asid_of h.core.system) s.core.system
+  pub store_asks : s.event ≡ event.Raised Modification → IsModified (pages_of_unit m p) h.core.entries (asid_of h.core.system) s.core.system
   store_asks raised =
       let l = leaves_here Modification raised in
       let code : l.what.code ≡ Modification = raised_alike l.what.code Modification (sym l.event ∙ raised) in
@@ -314,10 +314,10 @@ module _ (h : Held) (m : State) (p : ℕ) (rest : List ℕ) (k : Agrees h m) (re
   -- the course of the unit, with these counts and words
   module _ (n : Counts) (dirty : ℕ → Bool) where
     abbrev before : Course
-    before = course_of h.core n dirty (pages_of m p)
+    before = course_of h.core n dirty (pages_of_unit m p)
 
     abbrev after : Course
-    after = course_of s.core (one_more n) dirty (pages_of m p)
+    after = course_of s.core (one_more n) dirty (pages_of_unit m p)
 
     at_start : h.core.slot ≡ false → before.place ≡ Begun
     at_start outside = ap₂ (λ (a b : Bool). place_by a b (h.core.pc == 0x80000080) (bits h.core.system.status 3 1 == 1) (code_in h.core.system == 1) h.core.pc) user outside
@@ -333,7 +333,7 @@ module _ (h : Held) (m : State) (p : ℕ) (rest : List ℕ) (k : Agrees h m) (re
         by_slot false e = inl (at_start e)
 
     turns : Turns h.core s → Next before after
-    turns t = Branches (at_start t.outside) (ap (λ (c : CoreState). course_of c (one_more n) dirty (pages_of m p)) t.core
+    turns t = Branches (at_start t.outside) (ap (λ (c : CoreState). course_of c (one_more n) dirty (pages_of_unit m p)) t.core
         ∙ ap (λ (b : Bool). record {
           place = place_by b true (h.core.next == 0x80000080) (bits h.core.system.status 3 1 == 1) (code_in h.core.system == 1) h.core.next;
           page = before.page;
@@ -352,7 +352,7 @@ module _ (h : Held) (m : State) (p : ℕ) (rest : List ℕ) (k : Agrees h m) (re
       status = status_told h.core.system l.what ∙ ap pushed mode
 
       work_is : after.work ≡ counted_work before.work
-      work_is = ap (λ (c : CoreState). work_of c (one_more n) dirty (pages_of m p)) l.core
+      work_is = ap (λ (c : CoreState). work_of c (one_more n) dirty (pages_of_unit m p)) l.core
           ∙ ap (λ (asid : ℕ). record (counted_work before.work) { asid = asid }) (space_told h.core.system l.what)
 
       -- the place, by where it goes on and by its code
@@ -362,38 +362,38 @@ module _ (h : Held) (m : State) (p : ℕ) (rest : List ℕ) (k : Agrees h m) (re
           ∙ (ap (λ (w : ℕ). place_by (bits w 1 1 == 1) false (s.core.pc == 0x80000080) (bits w 3 1 == 1) (code_in s.core.system == 1) s.core.pc) status
           ∙ ap₂ (λ (x : ℕ) (b : Bool). place_by false false (x == 0x80000080) true b x) at code)
 
-      course_is : (place : Place) (page : ℕ) → after.place ≡ place → after.page ≡ page → after ≡ record { place = place; page = page; work = counted_work before.work }
+      course_is : (place : UnitPlace) (page : ℕ) → after.place ≡ place → after.page ≡ page → after ≡ record { place = place; page = page; work = counted_work before.work }
       course_is place page a b =
-          ap₂ (λ (x : Place) (y : ℕ). record { place = x; page = y; work = after.work }) a b ∙ ap (λ (w : Work). record { place = place; page = page; work = w }) work_is
+          ap₂ (λ (x : UnitPlace) (y : ℕ). record { place = x; page = y; work = after.work }) a b ∙ ap (λ (w : Work). record { place = place; page = page; work = w }) work_is
 
       misses : s.core.pc ≡ 0x80000000 → Next before after
       misses at = by_slot h.core.slot refl
         where
-          missing : IsMissed h.core.slot (pages_of m p) h.core.entries (asid_of h.core.system) s.core.system
+          missing : IsMissed h.core.slot (pages_of_unit m p) h.core.entries (asid_of h.core.system) s.core.system
           missing = miss_asks l.what.code l.event at
 
           in_handler : (modified : Bool) → (code_in s.core.system == 1) ≡ modified → after.place ≡ AtWord 0
           in_handler modified code = place_is 0x80000000 modified at code
 
           by_slot : (slot : Bool) → h.core.slot ≡ slot → Next before after
-          by_slot true e = MissesInSlot missing.ask (in_slot e) (missing.fits e) missing.none (course_is (AtWord 0) (asked (pages_of m p) missing.ask) (in_handler _ refl) missing.page)
-          by_slot false e = Misses missing.ask (at_start e) missing.none (course_is (AtWord 0) (asked (pages_of m p) missing.ask) (in_handler _ refl) missing.page)
+          by_slot true e = MissesInSlot missing.ask (in_slot e) (missing.fits e) missing.none (course_is (AtWord 0) (asked (pages_of_unit m p) missing.ask) (in_handler _ refl) missing.page)
+          by_slot false e = Misses missing.ask (at_start e) missing.none (course_is (AtWord 0) (asked (pages_of_unit m p) missing.ask) (in_handler _ refl) missing.page)
 
-      serves : s.core.pc ≡ 0x80000080 → TellsClean h.core.entries (pages_of m p).access (asid_of h.core.system) dirty → Next before after
+      serves : s.core.pc ≡ 0x80000080 → TellsClean h.core.entries (pages_of_unit m p).access (asid_of h.core.system) dirty → Next before after
       serves at clean = by_code (code_in s.core.system == 1) refl
         where
           modified_code : (code_in s.core.system == 1) ≡ true → s.event ≡ event.Raised Modification
           modified_code is =
-              let number : (number_of l.what.code == 1) ≡ true = ap (λ (x : ℕ). x == 1) (sym (ap code_in gone_is ∙ code_told h.core.system l.what)) ∙ is in
+              let number : (code_number l.what.code == 1) ≡ true = ap (λ (x : ℕ). x == 1) (sym (ap code_in gone_is ∙ code_told h.core.system l.what)) ∙ is in
               l.event ∙ ap event.Raised (code_1 l.what.code number)
 
           by_code : (modified : Bool) → (code_in s.core.system == 1) ≡ modified → Next before after
           by_code true is =
               let i = store_asks (modified_code is) in
-              Modifies users (clean i.slot i.entry i.found i.at i.clean) (course_is AtModification (pages_of m p).access (place_is 0x80000080 true at is) i.page)
+              Modifies users (clean i.slot i.entry i.found i.at i.clean) (course_is AtModification (pages_of_unit m p).access (place_is 0x80000080 true at is) i.page)
           by_code false is = Traps after.page users (course_is AtService after.page (place_is 0x80000080 false at is) refl)
 
-      leaves : TellsClean h.core.entries (pages_of m p).access (asid_of h.core.system) dirty → Next before after
+      leaves : TellsClean h.core.entries (pages_of_unit m p).access (asid_of h.core.system) dirty → Next before after
       leaves clean = by_vectors (l.what.miss && is_kuseg l.what.addr) refl
         where
           by_vectors : (b : Bool) → (l.what.miss && is_kuseg l.what.addr) ≡ b → Next before after
@@ -401,19 +401,19 @@ module _ (h : Held) (m : State) (p : ℕ) (rest : List ℕ) (k : Agrees h m) (re
           by_vectors false is = serves (ap (λ (c : CoreState). c.pc) l.core ∙ ap (λ (b : Bool). cond b 0x80000000 0x80000080) is) clean
 
     -- an instruction that is not done takes its unit on
-    pub goes_on : s.event ≢ event.Retired → TellsClean h.core.entries (pages_of m p).access (asid_of h.core.system) dirty → Next before after
+    pub goes_on : s.event ≢ event.Retired → TellsClean h.core.entries (pages_of_unit m p).access (asid_of h.core.system) dirty → Next before after
     goes_on more clean = by_does does_here
       where
-        by_does : Does h.core here p s → Next before after
+        by_does : IsUnitStep h.core here p s → Next before after
         by_does (inl r) = absurd (more r.event)
         by_does (inr (inl t)) = turns t
         by_does (inr (inr l)) = leaves l clean
 
   -- an instruction that is done leaves the buffer's ranges
-  pub retires : s.event ≡ event.Retired → (s.core.entries ≡ h.core.entries) × (s.core.random ≡ ticked 64 8 h.core.random)
+  pub retires : s.event ≡ event.Retired → (s.core.entries ≡ h.core.entries) × (s.core.random ≡ random_after 64 8 h.core.random)
   retires done = by_does does_here
     where
-      by_does : Does h.core here p s → (s.core.entries ≡ h.core.entries) × (s.core.random ≡ ticked 64 8 h.core.random)
+      by_does : IsUnitStep h.core here p s → (s.core.entries ≡ h.core.entries) × (s.core.random ≡ random_after 64 8 h.core.random)
       by_does (inl r) = (r.entries, r.random)
       by_does (inr (inl t)) = let wrong : event.Branched ≡ event.Retired = sym t.event ∙ done in absurd cc
       by_does (inr (inr l)) = let wrong : event.Raised l.what.code ≡ event.Retired = sym l.event ∙ done in absurd cc
@@ -422,7 +422,7 @@ module _ (h : Held) (m : State) (p : ℕ) (rest : List ℕ) (k : Agrees h m) (re
   pub entries_stay : s.core.entries ≡ h.core.entries
   entries_stay = by_does does_here
     where
-      by_does : Does h.core here p s → s.core.entries ≡ h.core.entries
+      by_does : IsUnitStep h.core here p s → s.core.entries ≡ h.core.entries
       by_does (inl r) = r.entries
       by_does (inr (inl t)) = ap (λ (c : CoreState). c.entries) t.core
       by_does (inr (inr l)) = ap (λ (c : CoreState). c.entries) l.core

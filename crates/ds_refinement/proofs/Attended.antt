@@ -13,12 +13,14 @@ use Rattle.ds_pagemap.proofs.Processes.{with_process-process_of}
 use Rattle.ds_pagemap.proofs.Boundaries.{boundary_time, boundary_owed}
 use Rattle.ds_pagemap_laws.proofs.Boundaries.{boundary_settles}
 use Rattle.ds_refinement.specs.declared.step.Step.TheVariants.{Boundary}
-use Rattle.ds_refinement.specs.Held.{Held, Kept, Own, whole}
+use Rattle.ds_refinement.specs.Held.{Held, Kept, Own}
+use Rattle.ds_refinement.specs.Inner.Held.{whole}
 use Rattle.ds_refinement.specs.Units.{is_general, has_left_user}
-use Rattle.ds_refinement.specs.Stands.{Agrees, Stands, KeptIs, IsKept, OnProcessor}
+use Rattle.ds_refinement.specs.Stands.{Agrees, Stands, KeptIs, OnProcessor}
+use Rattle.ds_refinement.specs.Inner.Stands.{IsKept}
 use Rattle.ds_refinement.specs.Steps.{Follows, Moves}
 use Rattle.ds_refinement.specs.Counts.{counts_of}
-use Rattle.ds_refinement.specs.Services.{EndsBy, seated, with_first_seated, with_idle_turn, with_none_spent}
+use Rattle.ds_refinement.specs.Inner.Services.{EndsUnitBy, seated, with_first_seated, with_idle_turn, with_none_spent}
 use Rattle.ds_refinement.proofs.Seating.{off, leaves, enters, running_of}
 use Rattle.ds_refinement.proofs.Ending.{half_unit, serves_kept}
 use Rattle.ds_refinement.proofs.Boundaries.{some_turn, half_boundary, kernel_owes, owed_is, over_too, unit_rests, waited, stands_waited}
@@ -43,22 +45,22 @@ kept_by (p ∷ rest) h m turn ready k o =
     subst (IsKept (seated h.core h.kept) h.bus.memory) (ap (with_process m p) same ∙ with_process-process_of m p) (leaves h m p rest k ready)
 
 -- after a boundary that was served
-served_behind : (h new : Held) (m : State) (turn : Turn) → Agrees h m → m.owed ≡ Some turn → EndsBy boundary h new → Stands new (touched true (boundary m))
-served_behind h new m turn k o ends =
+served_after : (h new : Held) (m : State) (turn : Turn) → Agrees h m → m.owed ≡ Some turn → EndsUnitBy boundary h new → Stands new (touched true (boundary m))
+served_after h new m turn k o ends =
     enters new (boundary m) (serves_kept boundary (seated h.core h.kept) new.kept h.bus.memory new.bus.memory m boundary_settles ends.serves (kept_by h.kept.state.ready h m turn refl k o))
     ends.represented ends.vectors ends.base ends.grants (ends.size ∙ k.size) ends.devices ends.none ends.ranges ends.enters
 
-pub boundary_served : (h new : Held) → IsSome h.kept.state.owed → EndsBy boundary h new → Follows Boundary h new
+pub boundary_served : (h new : Held) → IsSome h.kept.state.owed → EndsUnitBy boundary h new → Follows Boundary h new
 boundary_served h new some ends = let turn = (some_turn h.kept.state.owed some).0 in let owed = (some_turn h.kept.state.owed some).1 in record {
   follows = λ m k.
       let o : m.owed ≡ Some turn = owed_is h m k.agrees ∙ owed in (
         touched true (boundary m),
         inl (λ (e : m.owed ≡ None). (let no : Some turn ≡ None = sym o ∙ e in cc), (false, true, ap (touched true) (sym (half_boundary m turn o)))),
-        served_behind h new m turn k.agrees o ends,
+        served_after h new m turn k.agrees o ends,
       );
 }
 
-pub idle_served : (h new : Held) → h.kept.state.owed ≡ None → h.kept.state.ready ≡ [] → is_over h.kept.state ≡ false → EndsBy boundary (with_idle_turn h) new → Follows Boundary h new
+pub idle_served : (h new : Held) → h.kept.state.owed ≡ None → h.kept.state.ready ≡ [] → is_over h.kept.state ≡ false → EndsUnitBy boundary (with_idle_turn h) new → Follows Boundary h new
 idle_served h new owed none left ends = record {
   follows = λ m k.
       let o : m.owed ≡ None = owed_is h m k.agrees ∙ owed in
@@ -68,35 +70,35 @@ idle_served h new owed none left ends = record {
       let first_half : half_turn false m ≡ waited m = half_unit m o ∙ unit_rests m nobody in (
         touched true (boundary (waited m)),
         inr (o, nobody, going, (false, true, ap (touched true) (sym (ap (half_turn false) first_half ∙ half_boundary (waited m) turn refl)))),
-        served_behind (with_idle_turn h) new (waited m) turn (stands_waited h m k.agrees owed none) refl ends,
+        served_after (with_idle_turn h) new (waited m) turn (stands_waited h m k.agrees owed none) refl ends,
       );
 }
 
 -- The clock.
 
-time_behind : (h new : Held) → EndsBy boundary h new → new.kept.state.time ≡ h.kept.state.time
-time_behind h new ends =
+time_after : (h new : Held) → EndsUnitBy boundary h new → new.kept.state.time ≡ h.kept.state.time
+time_after h new ends =
     sym (ap (λ (s : State). s.time) (ends.serves.state []))
     ∙ (boundary_time (whole (seated h.core h.kept) h.bus.memory [])
     ∙ seated_time h.kept.state.ready h.core h.kept.state)
 
-owed_behind : (h new : Held) → EndsBy boundary h new → new.kept.state.owed ≡ None
-owed_behind h new ends = sym (ap (λ (s : State). s.owed) (ends.serves.state [])) ∙ boundary_owed (whole (seated h.core h.kept) h.bus.memory [])
+owed_past : (h new : Held) → EndsUnitBy boundary h new → new.kept.state.owed ≡ None
+owed_past h new ends = sym (ap (λ (s : State). s.owed) (ends.serves.state [])) ∙ boundary_owed (whole (seated h.core h.kept) h.bus.memory [])
 
-pub served_moves : (h new : Held) → IsSome h.kept.state.owed → new.own ≡ with_none_spent h.own → EndsBy boundary h new → Moves Boundary h new
+pub served_moves : (h new : Held) → IsSome h.kept.state.owed → new.own ≡ with_none_spent h.own → EndsUnitBy boundary h new → Moves Boundary h new
 served_moves h new some own ends = (
-  owed_behind h new ends,
+  owed_past h new ends,
   ap (λ (o : Own). o.spent) own,
-  time_behind h new ends ∙ (sym (add-zero h.kept.state.time) ∙ ap (λ (b : Bool). h.kept.state.time + truth (not b)) (sym some)),
+  time_after h new ends ∙ (sym (add-zero h.kept.state.time) ∙ ap (λ (b : Bool). h.kept.state.time + truth (not b)) (sym some)),
   ap (λ (o : Own). o.failed) own,
   ap counts_of own,
 )
 
-pub idle_served_moves : (h new : Held) → h.kept.state.owed ≡ None → new.own ≡ with_none_spent h.own → EndsBy boundary (with_idle_turn h) new → Moves Boundary h new
+pub idle_served_moves : (h new : Held) → h.kept.state.owed ≡ None → new.own ≡ with_none_spent h.own → EndsUnitBy boundary (with_idle_turn h) new → Moves Boundary h new
 idle_served_moves h new owed own ends = (
-  owed_behind (with_idle_turn h) new ends,
+  owed_past (with_idle_turn h) new ends,
   ap (λ (o : Own). o.spent) own,
-  time_behind (with_idle_turn h) new ends ∙ ap (λ (x : Option Turn). h.kept.state.time + truth (not (is_some x))) (sym owed),
+  time_after (with_idle_turn h) new ends ∙ ap (λ (x : Option Turn). h.kept.state.time + truth (not (is_some x))) (sym owed),
   ap (λ (o : Own). o.failed) own,
   ap counts_of own,
 )

@@ -7,10 +7,11 @@ use Rattle.ds_cp0.specs.System.{System, is_user}
 use Rattle.ds_core.specs.declared.event.Event.{Event}
 use Rattle.ds_core.specs.declared.event.Event.TheVariants.{Retired, Branched, Raised}
 use Rattle.ds_core.specs.Core as core
-use Rattle.ds_core.specs.Core.{CoreState, is_raised}
+use Rattle.ds_core.specs.Core.{CoreState}
+use Rattle.ds_core.specs.Inner.Core.{is_raised}
 use Rattle.ds_core.specs.Effect as whole
-use Rattle.ds_ahead.specs.Ahead as ahead
-use Rattle.ds_ahead.specs.Ahead.{Hardware, hardware_of, left_by, after_steps, Advances, AdvancesTo, ComesByWords, owed_tick, ticks_after, ticks}
+use Rattle.ds_ahead.specs.Inner.Ahead as ahead
+use Rattle.ds_ahead.specs.Inner.Ahead.{Hardware, hardware_of, left_by, after_steps, Advances, AdvancesTo, ComesByWords, owed_tick, ticks_after, ticks}
 use Rattle.ds_ahead.proofs.Slots.{Slots, step_slots, ticks_of_advance}
 use Rattle.ds_core.proofs.Users.{keeps_system}
 use Rattle.ds_pagemap.specs.declared.turn.Turn.{Turn}
@@ -21,19 +22,19 @@ use Rattle.ds_refinement.specs.Told.{is_delayed}
 use Rattle.ds_refinement.specs.Held.{Held, Kept, Own}
 use Rattle.ds_refinement.specs.Units.{user_status, is_general, is_served}
 use Rattle.ds_refinement.specs.Handling.{IsWhole}
-use Rattle.ds_refinement.specs.Counts.{Counts, counts_of, fresh, one_more}
+use Rattle.ds_refinement.specs.Counts.{Counts, counts_of, fresh_counts, one_more}
 use Rattle.ds_refinement.specs.Steps.{Follows, Moves, ticks_of}
-use Rattle.ds_refinement.specs.Services.{after_event, step_of, with_one_spent, with_boundary}
+use Rattle.ds_refinement.specs.Inner.Services.{after_event, step_of, with_one_spent, with_boundary}
 use Rattle.ds_refinement.specs.Real.{IsReal, RealPath}
-use Rattle.ds_refinement.specs.Quiet.{IsQuiet}
-use Rattle.ds_refinement.specs.Blocks.{moved, more_counted, counts_behind, time_behind, with_block, with_exception, at_time, IsQuietUntil, MayRunAhead}
+use Rattle.ds_refinement.specs.Inner.Quiet.{IsUndisturbed}
+use Rattle.ds_refinement.specs.Inner.Blocks.{moved, more_counted, counts_beyond, time_after, with_block, with_exception, at_time, IsQuietUntil, MayRunAhead}
 use Rattle.ds_refinement.proofs.Boundaries.{quiet}
 use Rattle.ds_refinement.proofs.Counting.{user_moves}
 use Rattle.ds_refinement.proofs.Meets.{barred}
 use Rattle.ds_refinement.proofs.Raising.{slot_of_raised}
 use Rattle.ds_refinement.proofs.Stages.{step_follows}
 use Rattle.ds_refinement.proofs.Joined.{one_step, path_join, instruction_real}
-use Rattle.ds_refinement.specs.Runs.{RunsWithin}
+use Rattle.ds_refinement.specs.Inner.Runs.{RunsWithin}
 use Rattle.ds_refinement.proofs.RunSteps.{BeginsBefore, within_before}
 
 -- Small numbers.
@@ -56,24 +57,24 @@ more_wired : (n : ℕ) (c : Counts) → (more_counted n c).wired ≡ c.wired
 more_wired zero c = refl
 more_wired (suc n) c = more_wired n c
 
-counts_wired : (n t : ℕ) (slot : Bool) (own : Own) → (counts_behind n t slot own).wired ≡ own.wired
+counts_wired : (n t : ℕ) (slot : Bool) (own : Own) → (counts_beyond n t slot own).wired ≡ own.wired
 counts_wired n zero slot own = more_wired n (counts_of own)
 counts_wired n (suc t) slot own = refl
 
 -- once time has passed, a unit has begun anew
-counts_past : (n t : ℕ) (slot : Bool) (own : Own) → 0 < t → counts_behind n t slot own ≡ record (fresh own.wired) { spent = owed_tick slot }
+counts_past : (n t : ℕ) (slot : Bool) (own : Own) → 0 < t → counts_beyond n t slot own ≡ record (fresh_counts own.wired) { spent = owed_tick slot }
 counts_past n zero slot own some = absurd (omega (arith, some))
 counts_past n (suc t) slot own some = refl
 
 -- a branch more is an instruction more of the unit
-counts_branched : (n t : ℕ) (was is : Bool) (own : Own) → was ≡ false → is ≡ true → one_more (counts_behind n t was own) ≡ counts_behind (suc n) t is own
+counts_branched : (n t : ℕ) (was is : Bool) (own : Own) → was ≡ false → is ≡ true → one_more (counts_beyond n t was own) ≡ counts_beyond (suc n) t is own
 counts_branched n zero was is own none some = refl
 counts_branched n (suc t) false true own none some = refl
 counts_branched n (suc t) true is own none some = absurd (cc)
 counts_branched n (suc t) false false own none some = absurd (cc)
 
 -- few are counted where few were, and no more than one of them since
-pub counts_few : (n t : ℕ) (slot : Bool) (own : Own) → own.spent ≤ 61 → (t ≡ 0 → n ≤ 1) → (counts_behind n t slot own).spent ≤ 62
+pub counts_few : (n t : ℕ) (slot : Bool) (own : Own) → own.spent ≤ 61 → (t ≡ 0 → n ≤ 1) → (counts_beyond n t slot own).spent ≤ 62
 counts_few zero zero slot own few one = omega (arith, few)
 counts_few (suc zero) zero slot own few one = omega (arith, few)
 counts_few (suc (suc n)) zero slot own few one = absurd (let most = one refl in omega (arith, most))
@@ -101,10 +102,10 @@ module _ (b : Held) (s : core.Step) (is : s ≡ whole.step b.core b.bus) (owed :
   real e at = instruction_real e b s (owed, ready) no_service (sym is ∙ ap (λ (x : Event). told_as x s) at)
 
   -- after the instruction that ends the unit
-  abbrev behind : Held
-  behind = after_event Retired b s
+  abbrev afterwards : Held
+  afterwards = after_event Retired b s
 
-  boundary_real : IsReal behind (with_boundary behind)
+  boundary_real : IsReal afterwards (with_boundary afterwards)
   boundary_real = record {
     instruction = λ unit other. absurd (some_is_not_none _ unit.0);
     service = λ unit served. absurd (some_is_not_none _ unit.0);
@@ -112,15 +113,15 @@ module _ (b : Held) (s : core.Step) (is : s ≡ whole.step b.core b.bus) (owed :
     pairs = λ all. record { each = λ slot e is low. (slot, e, is, refl, refl) };
   }
 
-  boundary_moves : Moves Boundary behind (with_boundary behind)
-  boundary_moves = let e : behind.kept.state.time ≡ behind.kept.state.time + 0 = omega arith in (refl, refl, e, refl, refl)
+  boundary_moves : Moves Boundary afterwards (with_boundary afterwards)
+  boundary_moves = let e : afterwards.kept.state.time ≡ afterwards.kept.state.time + 0 = omega arith in (refl, refl, e, refl, refl)
 
   -- with its boundary, which has nothing to do
-  unit_carries : (end : ℕ) (P : Held → Type 0) → Carries end P → P b → b.kept.state.time < end → s.event ≡ Retired → b.kept.ticked ≤ behind.kept.state.time → IsQuiet behind.kept → P (with_boundary behind)
+  unit_carries : (end : ℕ) (P : Held → Type 0) → Carries end P → P b → b.kept.state.time < end → s.event ≡ Retired → b.kept.ticked ≤ afterwards.kept.state.time → IsUndisturbed afterwards.kept → P (with_boundary afterwards)
   unit_carries end P carries p before at ticked q =
-      carries.more behind (with_boundary behind) Boundary
-      (carries.more b behind Unit p (inr (ready, before)) (follows Retired at) (owed, refl, refl, refl, refl, refl) (real Retired at))
-      (inl refl) (quiet behind refl refl ticked q) boundary_moves boundary_real
+      carries.more afterwards (with_boundary afterwards) Boundary
+      (carries.more b afterwards Unit p (inr (ready, before)) (follows Retired at) (owed, refl, refl, refl, refl, refl) (real Retired at))
+      (inl refl) (quiet afterwards refl refl ticked q) boundary_moves boundary_real
 
   -- a branch, or an exception: the unit isn't at its end
   inside_carries : (end : ℕ) (P : Held → Type 0) (e : Event) → Carries end P → P b → b.kept.state.time < end → s.event ≡ e → step_of e ≡ Inside → b.own.spent ≤ 63
@@ -144,7 +145,7 @@ slot_told_by s at code is event =
     ap (λ (x : core.Step). is_delayed x.core.system) is ∙ slot_of_raised at.core at.bus (ap (λ (x : core.Step). is_raised x.event) (sym is) ∙ ap is_raised event)
 
 -- what is quiet is so with a boundary owed too
-quiet_owed : (k : Kept) (owed : Option Turn) → IsQuiet k → IsQuiet (record k { state = record k.state { owed = owed } })
+quiet_owed : (k : Kept) (owed : Option Turn) → IsUndisturbed k → IsUndisturbed (record k { state = record k.state { owed = owed } })
 quiet_owed k owed q = record { commands = q.commands; characters = q.characters; asleep = q.asleep; period = q.period; ends = q.ends }
 
 -- Many instructions, from h on.
@@ -184,7 +185,7 @@ module _ (h : Held) (owed : h.kept.state.owed ≡ None) (ready : h.kept.state.re
       counts_few n (ticks n start) (at n).core.slot h.own few (λ none. omega (arith, all, small, none))
 
   -- a unit among so many steps begins before the end
-  begins : (n : ℕ) → IsCalm n → h.kept.state.time + suc n + owed_tick h.core.slot ≤ end → time_behind n h < end
+  begins : (n : ℕ) → IsCalm n → h.kept.state.time + suc n + owed_tick h.core.slot ≤ end → time_after n h < end
   begins n calm soon =
       let all : ticks n start + owed_tick (at n).core.slot ≡ n + owed_tick h.core.slot = ticks_of_advance n start (at n) (record { state = refl; calm = calm }) in
       let before : h.kept.state.time + ticks n start < end = omega (arith, all, soon) in
@@ -205,7 +206,7 @@ module _ (h : Held) (owed : h.kept.state.owed ≡ None) (ready : h.kept.state.re
     complete : is_raised s.event ≡ true → IsWhole s.core
     complete raised = let no : false ≡ true = sym (calm n (omega arith)) ∙ raised in absurd (cc)
 
-    before_end : time_behind n h < end
+    before_end : time_after n h < end
     before_end = begins n (λ k below. calm k (omega (arith, below))) soon
 
     slots : (e : Event) → s.event ≡ e → Slots e (at n).core.slot s.core.slot
@@ -225,12 +226,12 @@ module _ (h : Held) (owed : h.kept.state.owed ≡ None) (ready : h.kept.state.re
         let time : ℕ = h.kept.state.time + ticks n start + ticks_of (at n).core.slot in
         let time_is : time ≡ h.kept.state.time + ticks (suc n) start = omega (arith, more, unit) in
         let some : 0 < ticks (suc n) start = omega (arith, more) in
-        let wired : (counts_behind n (ticks n start) (at n).core.slot h.own).wired ≡ h.own.wired = counts_wired n (ticks n start) (at n).core.slot h.own in
-        let counts : fresh (counts_behind n (ticks n start) (at n).core.slot h.own).wired ≡ counts_behind (suc n) (ticks (suc n) start) s.core.slot h.own =
-        ap fresh wired ∙ (ap (λ (slot : Bool). record (fresh h.own.wired) { spent = owed_tick slot }) (sym (slots Retired is)) ∙ sym (counts_past (suc n) (ticks (suc n) start) s.core.slot h.own some)) in
+        let wired : (counts_beyond n (ticks n start) (at n).core.slot h.own).wired ≡ h.own.wired = counts_wired n (ticks n start) (at n).core.slot h.own in
+        let counts : fresh_counts (counts_beyond n (ticks n start) (at n).core.slot h.own).wired ≡ counts_beyond (suc n) (ticks (suc n) start) s.core.slot h.own =
+        ap fresh_counts wired ∙ (ap (λ (slot : Bool). record (fresh_counts h.own.wired) { spent = owed_tick slot }) (sym (slots Retired is)) ∙ sym (counts_past (suc n) (ticks (suc n) start) s.core.slot h.own some)) in
         let upto : time ≤ last = omega (arith, time_is, all, early) in
         let later : h.kept.state.time ≤ time = omega (arith, time_is) in
-        let q : IsQuiet (at_time time h.kept) = calm_until.quiet time later upto in
+        let q : IsUndisturbed (at_time time h.kept) = calm_until.quiet time later upto in
         let since : h.kept.ticked ≤ time = (let before : h.kept.ticked ≤ h.kept.state.time = calm_until.ticked in omega (arith, before, later)) in
         let turn : Option Turn = Some (record { began = h.kept.state.time + ticks n start; runner = first h.kept.state.ready }) in
         subst P
@@ -240,9 +241,9 @@ module _ (h : Held) (owed : h.kept.state.owed ≡ None) (ready : h.kept.state.re
         let more : ticks (suc n) start ≡ ticks n start + 0 = more_ticks Branched is in
         let time_is : h.kept.state.time + ticks n start ≡ h.kept.state.time + ticks (suc n) start = omega (arith, more) in
         let none : ticks (suc n) start ≡ ticks n start = omega (arith, more) in
-        let counts : one_more (counts_behind n (ticks n start) (at n).core.slot h.own) ≡ counts_behind (suc n) (ticks (suc n) start) s.core.slot h.own =
+        let counts : one_more (counts_beyond n (ticks n start) (at n).core.slot h.own) ≡ counts_beyond (suc n) (ticks (suc n) start) s.core.slot h.own =
         counts_branched n (ticks n start) (at n).core.slot s.core.slot h.own (slots Branched is).0 (slots Branched is).1
-        ∙ ap (λ (t : ℕ). counts_behind (suc n) t s.core.slot h.own) (sym none) in
+        ∙ ap (λ (t : ℕ). counts_beyond (suc n) t s.core.slot h.own) (sym none) in
         let most = few_counted n (λ k below. calm k (omega (arith, below))) in
         subst P
         (ap₂ (λ (t : ℕ) (k : Counts). moved h (left_by s) t None k) time_is counts)
@@ -267,7 +268,7 @@ module _ (h : Held) (owed : h.kept.state.owed ≡ None) (ready : h.kept.state.re
       let told : is_delayed hw.core.system ≡ (at n).core.slot = slot_told_by s (at n) code is refl in
       let here : (at n).core.pc < 2 ^ 32 = words n (omega arith) in
       subst P
-      (ap (λ (slot : Bool). moved h hw (time_behind n h) None (one_more (counts_behind n (ticks n start) slot h.own))) (sym told))
+      (ap (λ (slot : Bool). moved h hw (time_after n h) None (one_more (counts_beyond n (ticks n start) slot h.own))) (sym told))
       (inside_carries (with_block n h (at n)) s is refl ready user here (λ raised. all) end P (Raised code) carries
       (block n calm words early (omega (arith, soon))) (begins n calm soon) refl refl (omega (arith, most)))
 

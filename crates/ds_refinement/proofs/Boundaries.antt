@@ -29,9 +29,9 @@ use Rattle.ds_refinement.specs.Units.{is_general, has_left_user}
 use Rattle.ds_refinement.specs.Stands.{Stands, Agrees, CountedBy, IsUnbegun, RunningBy, InKernel, OnProcessor}
 use Rattle.ds_refinement.specs.Counts.{Counts, HasNone}
 use Rattle.ds_refinement.proofs.Tallied.{UnbegunBy, none_counted, ranges_of}
-use Rattle.ds_refinement.specs.Services.{with_boundary, with_idle_turn}
+use Rattle.ds_refinement.specs.Inner.Services.{with_boundary, with_idle_turn}
 use Rattle.ds_refinement.specs.Steps.{Follows}
-use Rattle.ds_refinement.specs.Quiet.{IsQuiet}
+use Rattle.ds_refinement.specs.Inner.Quiet.{IsUndisturbed}
 use Rattle.ds_refinement.proofs.Ending.{half_unit}
 
 -- What is kept beside the process that runs.
@@ -98,7 +98,7 @@ half_boundary m turn o = ap (λ (x : Option Turn). cond (is_some x) (boundary m)
 pub owed_is : (h : Held) (m : State) → Agrees h m → m.owed ≡ h.kept.state.owed
 owed_is h m k = ap (λ (s : State). s.owed) (beside h.kept.state.ready m h.kept.state k.kept.state)
 
-nothing_to_do : (h : Held) (m : State) (turn : Turn) → Agrees h m → h.kept.state.owed ≡ Some turn → IsQuiet h.kept → HasNothingToDo turn m
+nothing_to_do : (h : Held) (m : State) (turn : Turn) → Agrees h m → h.kept.state.owed ≡ Some turn → IsUndisturbed h.kept → HasNothingToDo turn m
 nothing_to_do h m turn k owed quiet =
     let b = beside h.kept.state.ready m h.kept.state k.kept.state in
     let began : last_boundary h.kept.state ≡ turn.began = ap (λ (o : Option Turn). began_or o h.kept.state.time) owed in
@@ -113,7 +113,7 @@ nothing_to_do h m turn k owed quiet =
           ∙ (ap (λ (x : PageState). has_some_expired h.kept.state.time x.table) k.kept.pages ∙ quiet.ends);
     }
 
-boundary_of : (h : Held) (m : State) (turn : Turn) → Agrees h m → h.kept.state.owed ≡ Some turn → IsQuiet h.kept → half_turn false m ≡ record m { owed = None }
+boundary_of : (h : Held) (m : State) (turn : Turn) → Agrees h m → h.kept.state.owed ≡ Some turn → IsUndisturbed h.kept → half_turn false m ≡ record m { owed = None }
 boundary_of h m turn k owed quiet =
     let o : m.owed ≡ Some turn = owed_is h m k ∙ owed in
     half_boundary m turn o ∙ quiet_boundary m turn o (nothing_to_do h m turn k owed quiet)
@@ -150,8 +150,8 @@ still_running (p ∷ rest) c k m turn o a = record {
   on = not_begun (is_user c.system) c.slot c k (record k { state = record k.state { owed = None } }) p m turn o a.on;
 }
 
-stands_behind : (h : Held) (m : State) (turn : Turn) → Agrees h m → h.kept.state.owed ≡ Some turn → h.kept.ticked ≤ h.kept.state.time → IsQuiet h.kept → Agrees (with_boundary h) (record m { owed = None })
-stands_behind h m turn k owed ticked quiet = record {
+stands_past : (h : Held) (m : State) (turn : Turn) → Agrees h m → h.kept.state.owed ≡ Some turn → h.kept.ticked ≤ h.kept.state.time → IsUndisturbed h.kept → Agrees (with_boundary h) (record m { owed = None })
+stands_past h m turn k owed ticked quiet = record {
   represented = k.represented;
   vectors = k.vectors;
   base = k.base;
@@ -177,14 +177,14 @@ still_unbegun (p ∷ rest) c own k m i none =
     let u : IsUnbegun c p m = i.1 (ap (λ (n : Counts). n.spent) none) in
     record { mode = u.mode; first = u.first; registers = u.registers }
 
-pub quiet : (h : Held) → IsSome h.kept.state.owed → HasNone h.own → h.kept.ticked ≤ h.kept.state.time → IsQuiet h.kept → Follows Boundary h (with_boundary h)
+pub quiet : (h : Held) → IsSome h.kept.state.owed → HasNone h.own → h.kept.ticked ≤ h.kept.state.time → IsUndisturbed h.kept → Follows Boundary h (with_boundary h)
 quiet h some nothing ticked q = let turn = (some_turn h.kept.state.owed some).0 in let owed = (some_turn h.kept.state.owed some).1 in record {
   follows = λ m k.
       let o : m.owed ≡ Some turn = owed_is h m k.agrees ∙ owed in (
         record m { owed = None },
         inl (λ (e : m.owed ≡ None). (let no : Some turn ≡ None = sym o ∙ e in cc), (false, false, sym (boundary_of h m turn k.agrees owed q))),
         record {
-          agrees = stands_behind h m turn k.agrees owed ticked q;
+          agrees = stands_past h m turn k.agrees owed ticked q;
           counted = none_counted h.kept.state.ready h.core h.own (with_boundary h).kept (record m { owed = None })
               (still_unbegun h.kept.state.ready h.core h.own h.kept m k.counted nothing) nothing (ranges_of h m k);
         },
@@ -255,7 +255,7 @@ waited_stands h m k owed none = record {
   counted = resting_tallied h.kept.state.ready h.core h.own h.kept (with_idle_turn h).kept m (waited m) none k.counted;
 }
 
-pub idle : (h : Held) → h.kept.state.owed ≡ None → h.kept.state.ready ≡ [] → is_over h.kept.state ≡ false → IsQuiet (with_idle_turn h).kept → Follows Boundary h (with_boundary (with_idle_turn h))
+pub idle : (h : Held) → h.kept.state.owed ≡ None → h.kept.state.ready ≡ [] → is_over h.kept.state ≡ false → IsUndisturbed (with_idle_turn h).kept → Follows Boundary h (with_boundary (with_idle_turn h))
 idle h owed none left q = record {
   follows = λ m k.
       let o : m.owed ≡ None = owed_is h m k.agrees ∙ owed in
@@ -269,7 +269,7 @@ idle h owed none left q = record {
         record (waited m) { owed = None },
         inr (o, nobody, going, (false, false, sym (ap (half_turn false) first_half ∙ boundary_of (with_idle_turn h) (waited m) turn k' refl q))),
         record {
-          agrees = stands_behind (with_idle_turn h) (waited m) turn k' refl (omega (arith, since)) q;
+          agrees = stands_past (with_idle_turn h) (waited m) turn k' refl (omega (arith, since)) q;
           counted = resting_tallied h.kept.state.ready h.core h.own h.kept (with_boundary (with_idle_turn h)).kept m (record (waited m) { owed = None }) none k.counted;
         },
       );

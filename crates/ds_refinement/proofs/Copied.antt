@@ -12,7 +12,7 @@ use Rattle.ds_policy.specs.declared.grant.Right.TheVariants.{Write}
 use Rattle.ds_policy.specs.Grants.{PageState}
 use Rattle.ds_policy.specs.Pages.{Table, entry_at, page_address}
 use Rattle.ds_grants.specs.State.{GrantsState, is_shared, frame_of_page}
-use Rattle.ds_grants.specs.Counts.{page_of}
+use Rattle.ds_grants.specs.Inner.Counts.{page_of}
 use Rattle.ds_grants.specs.Sound.{NamesPages}
 use Rattle.ds_grants.specs.Words.{word_of_right, word_of_grant}
 use Rattle.ds_grants.proofs.Fields.{user_lo}
@@ -28,11 +28,12 @@ use Rattle.ds_refinement.specs.Held.{Held, Kept, Own}
 use Rattle.ds_refinement.specs.Units.{has_left_user, is_served, AtStart}
 use Rattle.ds_refinement.specs.Handling.{HasBase}
 use Rattle.ds_refinement.specs.Copying.{AwaitsCopy, InCopy}
-use Rattle.ds_refinement.specs.Needs.{pages_of}
+use Rattle.ds_refinement.specs.Needs.{pages_of_unit}
 use Rattle.ds_refinement.specs.Counts.{counts_of, course_of, may_write, one_copied}
-use Rattle.ds_refinement.specs.Stands.{KeptIs, RunningIs, RunningBy, AreResting, Agrees, CountedBy, Stands, IsSound}
+use Rattle.ds_refinement.specs.Stands.{KeptIs, RunningIs, RunningBy, AreResting, Agrees, CountedBy, Stands}
+use Rattle.ds_refinement.specs.Inner.Stands.{IsSound}
 use Rattle.ds_refinement.specs.Steps.{Follows}
-use Rattle.ds_refinement.specs.Services.{IsCopied, copied_core, touched_registers}
+use Rattle.ds_refinement.specs.Inner.Services.{IsCopied, copied_core, touched_registers}
 use Rattle.ds_refinement.specs.Real.{GoesBack}
 use Rattle.ds_refinement.proofs.Vectors.{vectors_first}
 use Rattle.ds_refinement.proofs.Lookups.{frame_flags, page_of_number}
@@ -189,13 +190,13 @@ module _ (h new : Held) (p : ℕ) (waits : AwaitsCopy h.core.system h.kept.grant
     }
 
     -- the copy is a step of the unit's course
-    tallied_after : IsTallied (course_of new.core (one_copied (counts_of h.own)) (may_write new.kept p) (pages_of (touched true m) p))
+    tallied_after : IsTallied (course_of new.core (one_copied (counts_of h.own)) (may_write new.kept p) (pages_of_unit (touched true m) p))
     tallied_after =
         let parts = served_is h.core served in
         let seat = (runs h m p rest k.agrees ready).seat in
         touched_tallied m p rest h.core new.core (counts_of h.own) (one_copied (counts_of h.own)) (may_write h.kept p) (may_write new.kept p) (kept h m p rest k.agrees ready).ready seat
         (tallied_of h m p rest k ready)
-        (words.copies h.core new.core (counts_of h.own) (may_write h.kept p) (pages_of m p) (may_write new.kept p) (at_general h.core.pc parts.1) parts.0
+        (words.copies h.core new.core (counts_of h.own) (may_write h.kept p) (pages_of_unit m p) (may_write new.kept p) (at_general h.core.pc parts.1) parts.0
         (ap (λ (w : ℕ). bits w 3 1) z.mode) waits.code (user_after h new p copied) (first_after h new p copied) (hi_after h new p copied) (random_after h new p copied) (may k.agrees.grants) copied.rewritten.0 copied.rewritten.1)
 
     pub counted_after : CountedBy new.kept.state.ready new.core new.own new.kept (touched true m)
@@ -218,5 +219,5 @@ pub copy_room : (h : Held) (p : ℕ) (rest : List ℕ) → IsSound h → h.kept.
 copy_room h p rest sound ready served left waits =
     let z : InCopy h.core h.kept p sound.state = copying h sound.state p rest sound.stands ready served left waits in
     let parts = served_is h.core served in
-    courses.copy_room (course_of h.core (counts_of h.own) (may_write h.kept p) (pages_of sound.state p)) (tallied_of h sound.state p rest sound.stands ready)
+    courses.copy_room (course_of h.core (counts_of h.own) (may_write h.kept p) (pages_of_unit sound.state p)) (tallied_of h sound.state p rest sound.stands ready)
     (words.at_modified h.core (at_general h.core.pc parts.1) parts.0 (ap (λ (w : ℕ). bits w 3 1) z.mode) waits.code)

@@ -13,11 +13,11 @@ use Rattle.ds_dev.specs.Bus as bus
 use Rattle.ds_core.specs.Core.{CoreState}
 use Rattle.ds_refinement.specs.Held.{Held, Own}
 use Rattle.ds_refinement.specs.Copying.{AwaitsCopy}
-use Rattle.ds_refinement.specs.Granted.{IsGranted}
+use Rattle.ds_refinement.specs.Inner.Granted.{IsGranted}
 use Rattle.ds_refinement.specs.Steps.{counts_after}
-use Rattle.ds_refinement.specs.Services.{IsCopied, copied_core}
+use Rattle.ds_refinement.specs.Inner.Services.{IsCopied, copied_core}
 use Rattle.ds_refinement.specs.Real.{GoesBack, IsReal}
-use Rattle.ds_refinement.specs.StationRows.{kept, page, other, core_at, served, nested}
+use Rattle.ds_refinement.specs.Rows.StationRows.{kept, page, other, core_at, served, nested}
 
 -- a page, for writing
 abbrev writing : ℕ → Grant

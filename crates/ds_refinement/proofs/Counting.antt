@@ -17,15 +17,17 @@ use Rattle.ds_pagemap.specs.Unit.{Stop, at_pc, settle, after_call}
 use Rattle.ds_core.specs.declared.event.Event.{Event}
 use Rattle.ds_core.specs.declared.event.Event.TheVariants.{Retired, Branched, Raised}
 use Rattle.ds_refinement.specs.declared.step.Step.TheVariants.{Inside, Unit, Boundary}
-use Rattle.ds_refinement.specs.Held.{Held, Own, whole}
+use Rattle.ds_refinement.specs.Held.{Held, Own}
+use Rattle.ds_refinement.specs.Inner.Held.{whole}
 use Rattle.ds_refinement.specs.Units.{has_left_user, is_general, is_served, ends_in_stop, ends_in_call}
 use Rattle.ds_refinement.specs.Told.{own_in}
 use Rattle.ds_dev.specs.Bus.{BusState}
 use Rattle.ds_refinement.specs.Handling.{touches}
-use Rattle.ds_refinement.specs.Counts.{Counts, HasNone, counts_of, with_counts, one_more, one_word, one_served}
+use Rattle.ds_refinement.specs.Counts.{Counts, HasNone, counts_of, one_more, one_word, one_served}
+use Rattle.ds_refinement.specs.Inner.Counts.{with_counts}
 use Rattle.ds_refinement.specs.Steps.{Moves, counts_after, ticks_of}
-use Rattle.ds_refinement.specs.Services.{EndsBy, seated, with_first_seated, with_none_spent, with_one_spent, after_event, after_word, step_of, with_boundary, with_idle_turn}
-use Rattle.ds_refinement.specs.Ends.{EndsInStop, EndsInCall}
+use Rattle.ds_refinement.specs.Inner.Services.{EndsUnitBy, seated, with_first_seated, with_none_spent, with_one_spent, after_event, after_word, step_of, with_boundary, with_idle_turn}
+use Rattle.ds_refinement.specs.Inner.Ends.{EndsInStop, EndsInCall}
 
 -- Inside a unit.
 
@@ -93,7 +95,7 @@ record TakesATick (f : State → State) : Type 0 where
   time : (s : State) → (f s).time ≡ s.time + 1
   owed : (s : State) → IsSome (f s).owed
 
-ended_moves : (f : State → State) (h new : Held) → TakesATick f → h.kept.state.owed ≡ None → h.core.slot ≡ false → new.own ≡ with_none_spent h.own → EndsBy f h new → Moves Unit h new
+ended_moves : (f : State → State) (h new : Held) → TakesATick f → h.kept.state.owed ≡ None → h.core.slot ≡ false → new.own ≡ with_none_spent h.own → EndsUnitBy f h new → Moves Unit h new
 ended_moves f h new t owed first own ends =
     let before : State = whole (seated h.core h.kept) h.bus.memory [] in
     let is = ends.serves.state [] in
@@ -145,8 +147,8 @@ served_time m p pc call.Unknown = refl
 
 call_time : (m : State) (p pc : ℕ) → (after_call m p pc).time ≡ m.time + 1
 call_time m p pc =
-    let behind = at_pc (settle m p) p (word (pc + 4)) in
-    ap (λ (n : ℕ). n + 1) (served_time behind p pc (call_of (process_of behind p).registers.general))
+    let afterwards = at_pc (settle m p) p (word (pc + 4)) in
+    ap (λ (n : ℕ). n + 1) (served_time afterwards p pc (call_of (process_of afterwards p).registers.general))
 
 pub call_moves : (p : ℕ) (h new : Held) → h.kept.state.owed ≡ None → h.core.slot ≡ false → new.own ≡ with_none_spent h.own → EndsInCall p h new → Moves Unit h new
 call_moves p h new = ended_moves (ends_in_call p h.core.system.epc) h new (record { time = λ s. call_time s p h.core.system.epc; owed = λ s. refl })

@@ -26,10 +26,10 @@ use Rattle.ds_grants.specs.State.{GrantsState, is_shared, frame_of_page}
 use Rattle.ds_grants.specs.Words.{word_of_right, word_of_grant, granted_word}
 use Rattle.ds_grants.specs.Buffer.{hi_of, BufferHolds}
 use Rattle.ds_grants.proofs.Fields.{user_lo}
-use Rattle.ds_asid.specs.Spaces.{Spaces, number_of}
+use Rattle.ds_asid.specs.Spaces.{Spaces, space_number}
 use Rattle.ds_tables.specs.Places.{Places}
 use Rattle.ds_core.specs.Core.{CoreState}
-use Rattle.ds_core.specs.Access.{reached, refusal}
+use Rattle.ds_core.specs.Access.{reached, access_exception}
 use Rattle.ds_refinement.specs.Held.{Kept, space_of}
 use Rattle.ds_refinement.proofs.Lookups.{frame_flags, found_of, page_of_number}
 
@@ -92,20 +92,20 @@ module _ (g : GrantsState) (hi address offset : ℕ) (fault : Fault) (page at : 
   word_refuses (Some grant) access refused allowed = right_refuses grant.right access grant.page grant refl refused allowed
 
 -- no address of a user's page is refused at the general vector because nothing matches
-not_missed : (c : CoreState) (access : Kind) (address : ℕ) (fault : Fault) → nat_le (2 ^ 31) address ≡ false → ◌≡◌ {A = Fault} Refill fault → vector (refusal c access address fault) ≡ 0x80000080 → ⊥
+not_missed : (c : CoreState) (access : Kind) (address : ℕ) (fault : Fault) → nat_le (2 ^ 31) address ≡ false → ◌≡◌ {A = Fault} Refill fault → vector (access_exception c access address fault) ≡ 0x80000080 → ⊥
 not_missed c access address fault low is at =
     let below : nat_lt address (2 ^ 31) ≡ true = grind (arith, nat_tests) in
-    let misses : vector (refusal c access address Refill) ≡ 0x80000000 = ap (λ (b : Bool). cond b 0x80000000 0x80000080) below in
-    let both : ◌≡◌ {A = ℕ} 0x80000000 0x80000080 = sym misses ∙ (ap (λ (f : Fault). vector (refusal c access address f)) is ∙ at) in
+    let misses : vector (access_exception c access address Refill) ≡ 0x80000000 = ap (λ (b : Bool). cond b 0x80000000 0x80000080) below in
+    let both : ◌≡◌ {A = ℕ} 0x80000000 0x80000080 = sym misses ∙ (ap (λ (f : Fault). vector (access_exception c access address f)) is ∙ at) in
     omega (arith, both)
 
 -- An access of a user, whose process has this address space.
-module _ (c : CoreState) (g : GrantsState) (t : Places) (spaces : Spaces) (p : ℕ) (holds : BufferHolds c.entries spaces g t) (some : 0 < p) (number : 0 < number_of spaces p) (access : Kind) (size : Size) (address : ℕ) (fault : Fault)
-    (general : vector (refusal c access address fault) ≡ 0x80000080) (page at : ℕ) where
-  by_slot : (slot : ℕ) (e : Entry) → find c.entries (address / 2 ^ 12) (number_of spaces p) ≡ Some slot → slice_get c.entries slot ≡ Some e → nat_le (2 ^ 31) address ≡ false → through e access address ≡ Err fault
+module _ (c : CoreState) (g : GrantsState) (t : Places) (spaces : Spaces) (p : ℕ) (holds : BufferHolds c.entries spaces g t) (some : 0 < p) (number : 0 < space_number spaces p) (access : Kind) (size : Size) (address : ℕ) (fault : Fault)
+    (general : vector (access_exception c access address fault) ≡ 0x80000080) (page at : ℕ) where
+  by_slot : (slot : ℕ) (e : Entry) → find c.entries (address / 2 ^ 12) (space_number spaces p) ≡ Some slot → slice_get c.entries slot ≡ Some e → nat_le (2 ^ 31) address ≡ false → through e access address ≡ Err fault
       → by_entry (entry_at g.table p (page_address address)) access (address % 4096) ≡ Allowed page at → IsLate g access fault page
   by_slot slot e found there low is allowed =
-      let of = found_of c.entries (address / 2 ^ 12) (number_of spaces p) slot e found (there) (holds.own slot e there) in
+      let of = found_of c.entries (address / 2 ^ 12) (space_number spaces p) slot e found (there) (holds.own slot e there) in
       let small : address < 2 ^ 31 = grind (arith, nat_tests) in
       let same : e.vpn ≡ address / 2 ^ 12 = of.0 in
       let user : e.vpn < 2 ^ 19 = omega (arith, small, same) in
@@ -115,30 +115,30 @@ module _ (c : CoreState) (g : GrantsState) (t : Places) (spaces : Spaces) (p : �
       (subst (λ (x : Entry). through x access address ≡ Err fault) words is)
       (ap (λ (n : ℕ). by_entry (entry_at g.table p n) access (address % 4096)) (sym (page_of_number address e.vpn of.0)) ∙ allowed)
 
-  by_entry_at : (slot : ℕ) (o : Option Entry) → find c.entries (address / 2 ^ 12) (number_of spaces p) ≡ Some slot → slice_get c.entries slot ≡ o → nat_le (2 ^ 31) address ≡ false → through_slot o access address ≡ Err fault
+  by_entry_at : (slot : ℕ) (o : Option Entry) → find c.entries (address / 2 ^ 12) (space_number spaces p) ≡ Some slot → slice_get c.entries slot ≡ o → nat_le (2 ^ 31) address ≡ false → through_slot o access address ≡ Err fault
       → by_entry (entry_at g.table p (page_address address)) access (address % 4096) ≡ Allowed page at → IsLate g access fault page
   by_entry_at slot None found there low is allowed = absurd (not_missed c access address fault low (cc) general)
   by_entry_at slot (Some e) found there low is allowed = by_slot slot e found there low is allowed
 
-  by_found : (found : Option ℕ) → find c.entries (address / 2 ^ 12) (number_of spaces p) ≡ found → nat_le (2 ^ 31) address ≡ false → through_found c.entries found access address ≡ Err fault
+  by_found : (found : Option ℕ) → find c.entries (address / 2 ^ 12) (space_number spaces p) ≡ found → nat_le (2 ^ 31) address ≡ false → through_found c.entries found access address ≡ Err fault
       → by_entry (entry_at g.table p (page_address address)) access (address % 4096) ≡ Allowed page at → IsLate g access fault page
   by_found None found low is allowed = absurd (not_missed c access address fault low (cc) general)
   by_found (Some slot) found low is allowed = by_entry_at slot (slice_get c.entries slot) found refl low is allowed
 
   -- alignment, the user's half, and the buffer
   by_tests : (aligned high : Bool) → nat_le (2 ^ 31) address ≡ high
-      → cond (not aligned) (Err Address) (cond (not (not (high && true))) (Err Address) (cond (high && nat_lt address 0xC0000000) (Ok (at_physical (address % 2 ^ 29))) (through_found c.entries (find c.entries (address / 2 ^ 12) (number_of spaces p)) access address))) ≡ Err fault
+      → cond (not aligned) (Err Address) (cond (not (not (high && true))) (Err Address) (cond (high && nat_lt address 0xC0000000) (Ok (at_physical (address % 2 ^ 29))) (through_found c.entries (find c.entries (address / 2 ^ 12) (space_number spaces p)) access address))) ≡ Err fault
       → cond (not aligned) (Denied A (address_code access)) (cond high (Denied K (address_code access)) (by_entry (entry_at g.table p (page_address address)) access (address % 4096))) ≡ Allowed page at → IsLate g access fault page
   by_tests false high h is allowed = absurd cc
   by_tests true true h is allowed = absurd cc
-  by_tests true false h is allowed = by_found (find c.entries (address / 2 ^ 12) (number_of spaces p)) refl h is allowed
+  by_tests true false h is allowed = by_found (find c.entries (address / 2 ^ 12) (space_number spaces p)) refl h is allowed
 
-number_late : (c : CoreState) (g : GrantsState) (t : Places) (spaces : Spaces) (p : ℕ) → is_user c.system ≡ true → BufferHolds c.entries spaces g t → 0 < p → 0 < number_of spaces p → asid_of c.system ≡ number_of spaces p
-    → (access : Kind) (size : Size) (address : ℕ) (fault : Fault) → reached c access size address ≡ Err fault → vector (refusal c access address fault) ≡ 0x80000080 → (page at : ℕ) → decide g.table p access size address ≡ Allowed page at → IsLate g access fault page
+number_late : (c : CoreState) (g : GrantsState) (t : Places) (spaces : Spaces) (p : ℕ) → is_user c.system ≡ true → BufferHolds c.entries spaces g t → 0 < p → 0 < space_number spaces p → asid_of c.system ≡ space_number spaces p
+    → (access : Kind) (size : Size) (address : ℕ) (fault : Fault) → reached c access size address ≡ Err fault → vector (access_exception c access address fault) ≡ 0x80000080 → (page at : ℕ) → decide g.table p access size address ≡ Allowed page at → IsLate g access fault page
 number_late c g t spaces p user holds some number space access size address fault is general page at allowed =
     by_tests c g t spaces p holds some number access size address fault general page at (is_aligned size address) (nat_le (2 ^ 31) address) refl (rw (user, space) at is) allowed
 
 -- so it is in the address spaces that are kept
 pub refused_late : (c : CoreState) (k : Kept) (p : ℕ) → is_user c.system ≡ true → BufferHolds c.entries k.spaces k.grants k.tables → 0 < p → 0 < space_of k p → asid_of c.system ≡ space_of k p
-    → (access : Kind) (size : Size) (address : ℕ) (fault : Fault) → reached c access size address ≡ Err fault → vector (refusal c access address fault) ≡ 0x80000080 → (page at : ℕ) → decide k.grants.table p access size address ≡ Allowed page at → IsLate k.grants access fault page
+    → (access : Kind) (size : Size) (address : ℕ) (fault : Fault) → reached c access size address ≡ Err fault → vector (access_exception c access address fault) ≡ 0x80000080 → (page at : ℕ) → decide k.grants.table p access size address ≡ Allowed page at → IsLate k.grants access fault page
 refused_late c k p user holds some number space = number_late c k.grants k.tables k.spaces p user holds some number space

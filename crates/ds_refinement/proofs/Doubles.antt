@@ -8,7 +8,8 @@ use Rattle.ds_tlb.specs.Entries.{find, matches}
 use Rattle.ds_tlb.specs.Words.{entry_of}
 use Rattle.ds_cp0.specs.System.{asid_of}
 use Rattle.ds_tables.specs.Places.{page_of_table}
-use Rattle.ds_grants.specs.Buffer.{BufferHolds, read_only, lo_of, entry_for}
+use Rattle.ds_grants.specs.Buffer.{BufferHolds, read_only, lo_of}
+use Rattle.ds_grants.specs.Inner.Buffer.{entry_for}
 use Rattle.ds_grants.proofs.Fields.{table_lo}
 use Rattle.ds_grants.proofs.Fills.{find_written, same_keys, missed_buffer}
 use Rattle.ds_core.specs.Core.{CoreState}
@@ -16,7 +17,7 @@ use Rattle.ds_pagemap.specs.Machine.{State, process_of, touched}
 use Rattle.ds_refinement.specs.Held.{Held, Own, space_of}
 use Rattle.ds_refinement.specs.Handling.{InDouble}
 use Rattle.ds_refinement.specs.Stands.{Agrees}
-use Rattle.ds_refinement.specs.Services.{at_unit, table_entry}
+use Rattle.ds_refinement.specs.Inner.Services.{at_unit, table_entry}
 use Rattle.ds_refinement.proofs.Fields.{space_in, page_of_hi, table_of_hi, region_of_hi}
 use Rattle.ds_refill.proofs.Lent.{lend_26, in_27, base_size}
 use Rattle.ds_refinement.proofs.Standing.{runs, few, touched_state, own_unseen}

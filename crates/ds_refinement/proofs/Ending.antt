@@ -23,14 +23,16 @@ use Rattle.ds_pagemap_laws.proofs.Calls.{parked_settles, after_call_settles}
 use Rattle.ds_refinement.specs.declared.cause.Cause.{Cause}
 use Rattle.ds_refinement.specs.declared.cause.Cause.TheVariants as cause
 use Rattle.ds_refinement.specs.declared.step.Step.TheVariants.{Unit}
-use Rattle.ds_refinement.specs.Held.{Held, Kept, no_memory, whole}
+use Rattle.ds_refinement.specs.Held.{Held, Kept, no_memory}
+use Rattle.ds_refinement.specs.Inner.Held.{whole}
 use Rattle.ds_refinement.specs.Copying.{AwaitsCopy, InCopy}
 use Rattle.ds_refinement.specs.Units.{is_general, is_served, has_left_user, EndsUnit, InService, Promise, own_of, ends_in_stop, ends_in_call}
-use Rattle.ds_refinement.specs.Stands.{Stands, IsKept, InKernel, OnProcessor}
+use Rattle.ds_refinement.specs.Stands.{Stands, InKernel, OnProcessor}
+use Rattle.ds_refinement.specs.Inner.Stands.{IsKept}
 use Rattle.ds_refinement.specs.Told.{told, is_delayed, own_in}
 use Rattle.ds_refinement.specs.Steps.{Comes, Follows}
-use Rattle.ds_refinement.specs.Services.{Serves, EndsBy, seated}
-use Rattle.ds_refinement.specs.Ends.{EndsInStop, EndsInCall}
+use Rattle.ds_refinement.specs.Inner.Services.{Serves, EndsUnitBy, seated}
+use Rattle.ds_refinement.specs.Inner.Ends.{EndsInStop, EndsInCall}
 use Rattle.ds_refinement.proofs.Late.{never_ends}
 use Rattle.ds_refinement.proofs.Seating.{off, leaves, enters, is_whole, running_of}
 
@@ -64,7 +66,7 @@ serves_kept f old new before after m settles s a =
 
 pub service : (f : State → State) (h new : Held) (m : State) (p : ℕ) (rest : List ℕ) → ((s : State) → all_settled (f s) ≡ f (all_settled s))
     → Stands h m → h.kept.state.ready ≡ p ∷ rest → m.owed ≡ None → unit m ≡ f (with_process m p (off h.core (process_of m p)))
-    → EndsBy f h new → Comes Unit new m
+    → EndsUnitBy f h new → Comes Unit new m
 service f h new m p rest settles k ready owed is ends =
     let all : IsKept new.kept new.bus.memory (f (with_process m p (off h.core (process_of m p)))) =
     serves_kept f (seated h.core h.kept) new.kept h.bus.memory new.bus.memory _ settles ends.serves (leaves h m p rest k.agrees ready) in
@@ -139,7 +141,7 @@ module _ (h new : Held) (p : ℕ) (rest : List ℕ) (ready : h.kept.state.ready 
   by_promise : (f : State → State) (why : Cause) → EndsUnit (page_state h.kept.grants h.bus.memory) p h.core.system.bad_vaddr why → ((s : State) → all_settled (f s) ≡ f (all_settled s))
       → told h.core.system (page_state h.kept.grants h.bus.memory) p ≡ why
       → ((m : State) → m.memory ≡ page_state h.kept.grants h.bus.memory → Promise why h.core.system.bad_vaddr (is_delayed h.core.system) h.core.system.epc p m (with_registers m p h.core.registers) → unit m ≡ f (with_registers m p h.core.registers))
-      → EndsBy f h new → Follows Unit h new
+      → EndsUnitBy f h new → Follows Unit h new
   by_promise f why stops settles is keeps ends = record {
     follows = λ m k.
         let a : InService h.core p m = stopping h m p rest k ready served left (subst (EndsUnit (page_state h.kept.grants h.bus.memory) p h.core.system.bad_vaddr) (sym is) stops) in

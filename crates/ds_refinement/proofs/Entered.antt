@@ -8,7 +8,7 @@ use Rattle.ds_isa.specs.Registers.{settled}
 use Rattle.ds_tlb.specs.Entries.{find}
 use Rattle.ds_cp0.specs.declared.exception.Exception.{Exception}
 use Rattle.ds_cp0.specs.Codes.{is_translation}
-use Rattle.ds_cp0.specs.System.{System, asid_of, is_user, is_kuseg, vector, entered, with_address, with_field, pushed, epc_of, cause_of}
+use Rattle.ds_cp0.specs.System.{System, asid_of, is_user, is_kuseg, vector, entered, with_address, with_field, pushed, epc_of, cause_after}
 use Rattle.ds_core.specs.Core.{core_at_vector}
 use Rattle.ds_pagemap.specs.Machine.{State, process_of}
 use Rattle.ds_pagemap.specs.Unit.{with_registers}
@@ -17,7 +17,8 @@ use Rattle.ds_refinement.specs.Held.{Held, space_of}
 use Rattle.ds_refinement.specs.Units.{user_status, EndsUnit, Promise, InService}
 use Rattle.ds_refinement.specs.Copying.{AwaitsCopy, InCopy}
 use Rattle.ds_refinement.proofs.Exceptions.{status_told, epc_told}
-use Rattle.ds_refinement.specs.Handling.{AtContext, HasBase, IsSet, IsWhole, AreUnits, InHandler, IsMiss}
+use Rattle.ds_refinement.specs.Handling.{AtContext, HasBase, IsSet, IsWhole, AreUnits, InHandler}
+use Rattle.ds_refinement.specs.Inner.Handling.{IsMiss}
 use Rattle.ds_refinement.specs.Stands.{OnProcessor, Agrees}
 use Rattle.ds_refinement.proofs.Fields.{space_set, hi_entered, context_entered, hi_low, hi_small, context_high, context_low}
 use Rattle.ds_refill.proofs.Lent.{lent_itself}
@@ -51,7 +52,7 @@ base_entered s e k = address_base _ e e.addr (record { tables = k.tables; whole 
 
 -- what the coprocessor shows of an address that the TLB refused
 abbrev with_page : System → Exception → ℕ → System
-with_page s e a = record s { status = pushed s.status; cause = cause_of s.cause e; epc = epc_of e; bad_vaddr = a; context = with_field s.context 2 19 (bits a 12 19); entry_hi = with_field s.entry_hi 12 20 (bits a 12 20) }
+with_page s e a = record s { status = pushed s.status; cause = cause_after s.cause e; epc = epc_of e; bad_vaddr = a; context = with_field s.context 2 19 (bits a 12 19); entry_hi = with_field s.entry_hi 12 20 (bits a 12 20) }
 
 module _ (h : Held) (m : State) (p : ℕ) (rest : List ℕ) (e : Exception) (k : Agrees h m) (ready : h.kept.state.ready ≡ p ∷ rest) (whole : IsWhole (core_at_vector h.core e))
     (mode : h.core.system.status ≡ user_status) (owed : m.owed ≡ None) (at : epc_of e ≡ (process_of m p).pc) (units : AreUnits (settled h.core.registers) p m) where
@@ -63,9 +64,9 @@ module _ (h : Held) (m : State) (p : ℕ) (rest : List ℕ) (e : Exception) (k :
 
   page_shown : (miss : IsMiss h.core e) → entered h.core.system e ≡ with_page h.core.system e miss.address
   page_shown miss =
-      ap (with_address (record h.core.system { status = pushed h.core.system.status; cause = cause_of h.core.system.cause e; epc = epc_of e }) e) miss.is
+      ap (with_address (record h.core.system { status = pushed h.core.system.status; cause = cause_after h.core.system.cause e; epc = epc_of e }) e) miss.is
       ∙ ap (λ (x : Bool). cond x (with_page h.core.system e miss.address)
-      (record (record h.core.system { status = pushed h.core.system.status; cause = cause_of h.core.system.cause e; epc = epc_of e }) { bad_vaddr = miss.address })) miss.code
+      (record (record h.core.system { status = pushed h.core.system.status; cause = cause_after h.core.system.cause e; epc = epc_of e }) { bad_vaddr = miss.address })) miss.code
 
   -- the handler's first word
   at_first_word : (miss : IsMiss h.core e) → InHandler AtContext (core_at_vector h.core e) h.kept p m

@@ -2,15 +2,15 @@
 use Rattle.std.proofs.Common.{◌≡◌, ℕ, ◌+◌, ◌-◌, ◌*◌, ◌%◌, ◌<◌, ◌^◌, Bool, true, false, cond, refl, ap, ap₂, ◌∙◌, arith}
 use Rattle.std.specs.Prelude.{◌==◌, Option, Some, None}
 use Rattle.ds_word.specs.Word.{word, bits, bit}
-use Rattle.ds_cp0.specs.System.{System, entered, with_address, with_field, asid_of, pushed, cause_of, epc_of}
-use Rattle.ds_cp0.specs.Codes.{number_of, is_translation}
+use Rattle.ds_cp0.specs.System.{System, entered, with_address, with_field, asid_of, pushed, cause_after, epc_of}
+use Rattle.ds_cp0.specs.Codes.{code_number, is_translation}
 use Rattle.ds_cp0.specs.declared.exception.Exception.{Exception}
 use Rattle.ds_cp0.specs.declared.exception.ExceptionCode.{ExceptionCode}
 use Rattle.ds_cp0.specs.declared.exception.ExceptionCode.TheVariants.{Interrupt, Modification, LoadMiss, StoreMiss, LoadAddress, StoreAddress, FetchBus, DataBus, SystemCall, Breakpoint, ReservedInstruction, CoprocessorUnusable, Overflow}
 use Rattle.ds_refinement.specs.Told.{code_in, is_delayed, own_in}
 
 -- a code has four bits
-code_small : (code : ExceptionCode) → number_of code < 16
+code_small : (code : ExceptionCode) → code_number code < 16
 code_small Interrupt = omega arith
 code_small Modification = omega arith
 code_small LoadMiss = omega arith
@@ -108,17 +108,17 @@ own_by false pc small = refl
 module _ (s : System) (e : Exception) where
   -- the coprocessor that Cause names
   abbrev unit : ℕ
-  unit = cond (number_of e.code == 11) (e.unit % 4) (bits s.cause 28 2)
+  unit = cond (code_number e.code == 11) (e.unit % 4) (bits s.cause 28 2)
 
   -- Cause tells the code
-  pub code_told : code_in (entered s e) ≡ number_of e.code
+  pub code_told : code_in (entered s e) ≡ code_number e.code
   code_told = ap (λ (w : ℕ). bits w 2 4) (cause_kept _ e e.addr)
-      ∙ code_field e.slot unit (bits s.cause 8 2) (number_of e.code) (unit_small (number_of e.code == 11) e.unit s.cause) (requests_small s.cause) (code_small e.code)
+      ∙ code_field e.slot unit (bits s.cause 8 2) (code_number e.code) (unit_small (code_number e.code == 11) e.unit s.cause) (requests_small s.cause) (code_small e.code)
 
   -- BD tells the slot
   pub slot_told : is_delayed (entered s e) ≡ e.slot
   slot_told = ap (λ (w : ℕ). bits w 31 1 == 1) (cause_kept _ e e.addr)
-      ∙ slot_field e.slot unit (bits s.cause 8 2) (number_of e.code) (unit_small (number_of e.code == 11) e.unit s.cause) (requests_small s.cause) (code_small e.code)
+      ∙ slot_field e.slot unit (bits s.cause 8 2) (code_number e.code) (unit_small (code_number e.code == 11) e.unit s.cause) (requests_small s.cause) (code_small e.code)
 
   -- EPC and BD tell the instruction's own address
   pub own_told : e.pc < 2 ^ 32 → own_in (entered s e) ≡ e.pc
@@ -139,5 +139,5 @@ module _ (s : System) (e : Exception) where
   -- BadVAddr tells the address
   pub address_told : (address : ℕ) → e.addr ≡ Some address → (entered s e).bad_vaddr ≡ address
   address_told address is =
-      let t : System = record s { status = pushed s.status; cause = cause_of s.cause e; epc = epc_of e } in
+      let t : System = record s { status = pushed s.status; cause = cause_after s.cause e; epc = epc_of e } in
       ap (λ (o : Option ℕ). (with_address t e o).bad_vaddr) is ∙ shown_address t address (is_translation e.code)

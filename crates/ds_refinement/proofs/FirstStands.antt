@@ -24,7 +24,7 @@ use Rattle.ds_pagemap_laws.specs.Settled.{settled_process}
 use Rattle.ds_refinement.specs.Held.{Held, Kept, Own, bare, vacated}
 use Rattle.ds_refinement.specs.Handling.{HasBase}
 use Rattle.ds_refinement.specs.Stands.{Stands, KeptIs, RunningBy, AreResting}
-use Rattle.ds_refinement.specs.Counts.{counts_of, fresh, HasNone, HasRanges}
+use Rattle.ds_refinement.specs.Counts.{counts_of, fresh_counts, HasNone, HasRanges}
 use Rattle.ds_refinement.proofs.Tallied.{UnbegunBy, none_counted}
 use Rattle.ds_refinement.specs.First.{IsFirst, first_core, first_bus, first_kept}
 
@@ -105,5 +105,5 @@ first_stands policy images input start h some named low high f =
           (subst (λ (c : CoreState). UnbegunBy k.state.ready c (first_state policy images input)) (sym f.core) (unbegun policy images input start memory t ends policy.processes some refl)))
           (subst HasNone (sym f.own) refl)
           (subst (λ (o : Own). HasRanges h.core (counts_of o)) (sym f.own)
-          (subst (λ (c : CoreState). HasRanges c (fresh 0)) (sym f.core) (record { size = refl; low = low; high = high; turn = omega arith })));
+          (subst (λ (c : CoreState). HasRanges c (fresh_counts 0)) (sym f.core) (record { size = refl; low = low; high = high; turn = omega arith })));
     }

@@ -5,7 +5,7 @@ use Rattle.std.specs.Prelude.{nat_lt, Err}
 use Rattle.ds_word.specs.Word.{word, bits}
 use Rattle.ds_isa.specs.declared.instr.Kind.TheVariants.{Load}
 use Rattle.ds_isa.specs.Registers.{Registers}
-use Rattle.ds_tlb.specs.Entries.{find, ticked}
+use Rattle.ds_tlb.specs.Entries.{find, random_after}
 use Rattle.ds_cp0.specs.declared.exception.ExceptionCode.TheVariants.{LoadMiss}
 use Rattle.ds_cp0.specs.System.{System, asid_of, is_user, entered, returned}
 use Rattle.ds_amap.specs.declared.map.Mode.TheVariants.{Kernel}
@@ -17,18 +17,20 @@ use Rattle.ds_core.specs.declared.event.Event.TheVariants.{Retired, Raised}
 use Rattle.ds_core.specs.Core.{CoreState, Step}
 use Rattle.ds_core.specs.Effect.{step}
 use Rattle.ds_refill.specs.Handler.{HasWords}
-use Rattle.ds_refill.specs.Refill.{IsKernel, lent, late_of, at_word, table_miss, handler_events}
+use Rattle.ds_refill.specs.Refill.{lent, late_of}
+use Rattle.ds_refill.specs.Inner.Refill.{IsKernel, at_word, table_miss, handler_events}
 use Rattle.ds_refill.proofs.Whole.{word_0, word_1, word_2_misses}
-use Rattle.ds_refill.specs.Refills.{after_refill, CanLoad, RunsInside}
+use Rattle.ds_refill.specs.Inner.Refills.{after_refill, CanLoad, RunsInside}
 use Rattle.ds_refill.proofs.Lent.{is_at_word, base_size}
 use Rattle.ds_refill.proofs.Once.{at_once_runs}
 use Rattle.ds_tables.specs.Places.{region_of, page_of_table}
-use Rattle.ds_tables.specs.Tables.{word_place}
+use Rattle.ds_tables.specs.Tables.{table_word_place}
 use Rattle.ds_grants.specs.Words.{granted_word}
 use Rattle.ds_pagemap.specs.Machine.{State}
 use Rattle.ds_refinement.specs.Held.{Held, Kept, space_of}
 use Rattle.ds_refinement.specs.Handling.{Phase, AtContext, AtAddress, AtLoad, AtPause, AtMove, AtClear, AtWrite, AtJump, AtReturn, InHandler}
-use Rattle.ds_refinement.specs.Stands.{RunningIs, Agrees, IsSound}
+use Rattle.ds_refinement.specs.Stands.{RunningIs, Agrees}
+use Rattle.ds_refinement.specs.Inner.Stands.{IsSound}
 use Rattle.ds_refinement.proofs.Fields.{space_in, IsWord, word_is_word}
 use Rattle.ds_refinement.proofs.Loads.{table_hit, table_miss_is, table_below}
 use Rattle.ds_refinement.proofs.Standing.{first_ready, runs, few}
@@ -93,7 +95,7 @@ module _ (h : Held) (m : State) (p : ℕ) (rest : List ℕ) (k : Agrees h m) (re
       let w : IsWord (granted_word h.kept.grants p before.vpn) = word_is_word h.kept.grants p before.vpn k.grants in
       let frame : ℕ = page_of_table h.kept.tables p (region_of (before.vpn * 2 ^ 12)) in
       record {
-        place = word_place frame (before.vpn * 2 ^ 12);
+        place = table_word_place frame (before.vpn * 2 ^ 12);
         small = small;
         whole = aligned;
         reached =
@@ -115,21 +117,21 @@ module _ (h : Held) (m : State) (p : ℕ) (rest : List ℕ) (k : Agrees h m) (re
       let long = base_size h.core.registers before.base before.first before.second before.late before.registers before.whole.size in
       let is : h.core ≡ at_word 0x80000000 0x80000004 false (lent r x y None) s h.core.entries h.core.random =
       is_at_word h.core 0x80000000 0x80000004 false (lent r x y None) before.pc next_is before.slot (before.registers ∙ ap (lent r x y) before.lends) in
-      let u : CoreState = at_word 0x80000004 0x80000008 false (lent r s.context y (late_of 26 x)) s h.core.entries (ticked 64 8 h.core.random) in
-      let v : CoreState = at_word 0x80000008 0x8000000C false (lent r s.context s.epc (late_of 27 y)) s h.core.entries (ticked 64 8 (ticked 64 8 h.core.random)) in
+      let u : CoreState = at_word 0x80000004 0x80000008 false (lent r s.context y (late_of 26 x)) s h.core.entries (random_after 64 8 h.core.random) in
+      let v : CoreState = at_word 0x80000008 0x8000000C false (lent r s.context s.epc (late_of 27 y)) s h.core.entries (random_after 64 8 (random_after 64 8 h.core.random)) in
       let first : step h.core h.bus ≡ record { event = Retired; core = u; bus = h.bus } =
       ap (λ (d : CoreState). step d h.bus) is ∙ word_0 r x y s h.core.entries h.core.random h.bus k.vectors in_kernel long in
       let to_u : run.3.0 ≡ u = ap (λ (d : Step). d.core) (sym run.3.1 ∙ first) in
       let second : step run.3.0 h.bus ≡ record { event = Retired; core = v; bus = h.bus } =
-      ap (λ (d : CoreState). step d h.bus) to_u ∙ word_1 r s.context y (late_of 26 x) s h.core.entries (ticked 64 8 h.core.random) h.bus k.vectors in_kernel long in
+      ap (λ (d : CoreState). step d h.bus) to_u ∙ word_1 r s.context y (late_of 26 x) s h.core.entries (random_after 64 8 h.core.random) h.bus k.vectors in_kernel long in
       let next = run.3.3 in
       let to_v : next.3.0 ≡ v = ap (λ (d : Step). d.core) (sym next.3.1 ∙ second) in
       let last = next.3.3 in
       let high : nat_lt h.core.system.context (2 ^ 31) ≡ false = is_high h.core.system.context (let where_is = before.context in omega (arith, where_is)) in
       let reach : translate h.core.entries (asid_of h.core.system) Kernel Load h.core.system.context ≡ Err Refill =
       ap₂ (λ (a n : ℕ). translate h.core.entries a Kernel Load n) space before.context ∙ table_miss_is h.core.entries (space_of h.kept p) before.vpn before.user found in
-      let third : step next.3.0 h.bus ≡ record { event = Raised LoadMiss; core = at_word 0x80000080 0x80000084 false (lent r s.context s.epc None) (entered s (table_miss s.context)) h.core.entries (ticked 64 8 (ticked 64 8 (ticked 64 8 h.core.random))); bus = h.bus } =
-      ap (λ (d : CoreState). step d h.bus) to_v ∙ word_2_misses r s.context s.epc y s h.core.entries (ticked 64 8 (ticked 64 8 h.core.random)) h.bus k.vectors in_kernel long small aligned high reach in
+      let third : step next.3.0 h.bus ≡ record { event = Raised LoadMiss; core = at_word 0x80000080 0x80000084 false (lent r s.context s.epc None) (entered s (table_miss s.context)) h.core.entries (random_after 64 8 (random_after 64 8 (random_after 64 8 h.core.random))); bus = h.bus } =
+      ap (λ (d : CoreState). step d h.bus) to_v ∙ word_2_misses r s.context s.epc y s h.core.entries (random_after 64 8 (random_after 64 8 h.core.random)) h.bus k.vectors in_kernel long small aligned high reach in
       let no : Retired ≡ Raised LoadMiss = ap (λ (d : Step). d.event) (sym last.3.1 ∙ third) in
       absurd cc
 

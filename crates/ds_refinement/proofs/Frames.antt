@@ -14,8 +14,8 @@ use Rattle.ds_grants.specs.State.{GrantsState, is_live, is_shared, frame_of_page
 use Rattle.ds_grants.specs.Sound.{NamesPages}
 
 -- a word put after the first bytes is put into the rest
-put_behind : (memory : List ℕ) (start at w : ℕ) → start % 4 ≡ 0 → start + at - at % 4 + 4 ≤ length memory → drop start (with_word memory (start + at) w) ≡ with_word (drop start memory) at w
-put_behind memory start at w whole within =
+put_after : (memory : List ℕ) (start at w : ℕ) → start % 4 ≡ 0 → start + at - at % 4 + 4 ≤ length memory → drop start (with_word memory (start + at) w) ≡ with_word (drop start memory) at w
+put_after memory start at w whole within =
     let p : ℕ = at - at % 4 in
     let place : start + at - (start + at) % 4 ≡ start + (at - at % 4) = omega arith in
     let front : length (take (start + (at - at % 4)) memory) ≡ start + (at - at % 4) = length-take-le (start + (at - at % 4)) memory (omega arith) in
@@ -44,7 +44,7 @@ put_among xs n at w inside within =
 frame_of-with_word : (memory : List ℕ) (f at w : ℕ) → at < 4096 → f * 4096 + 4096 ≤ length memory → frame_of (with_word memory (f * 4096 + at) w) f ≡ with_word (frame_of memory f) at w
 frame_of-with_word memory f at w inside within =
     let size = length-drop (f * 4096) memory in
-    ap (take 4096) (put_behind memory (f * 4096) at w (omega arith) (omega arith))
+    ap (take 4096) (put_after memory (f * 4096) at w (omega arith) (omega arith))
     ∙ put_among (drop (f * 4096) memory) 4096 at w (omega arith) (omega arith)
 
 module _ (g : GrantsState) (memory : List ℕ) (page offset : ℕ) (lives : is_live g page ≡ true) (low : page < g.frames) (names : NamesPages g) (large : length memory ≡ 2 ^ 23) (inside : offset < 4096) where

@@ -15,22 +15,22 @@ use Rattle.ds_refinement.specs.declared.cause.Cause.{Cause}
 use Rattle.ds_refinement.specs.declared.cause.Cause.TheVariants as cause
 use Rattle.ds_refinement.specs.declared.step.Step.{Step}
 use Rattle.ds_refinement.specs.Held.{Held}
-use Rattle.ds_refinement.specs.Stands.{IsSound}
+use Rattle.ds_refinement.specs.Inner.Stands.{IsSound}
 use Rattle.ds_refinement.specs.Steps.{Follows, Moves}
-use Rattle.ds_refinement.specs.Services.{after_event, after_word}
+use Rattle.ds_refinement.specs.Inner.Services.{after_event, after_word}
 use Rattle.ds_refinement.specs.Told.{told}
 use Rattle.ds_refinement.specs.Copying.{AwaitsCopy}
 use Rattle.ds_refinement.specs.Pairs.{HasNoNewPairs}
 use Rattle.ds_refinement.specs.Units.{EndsUnit, has_left_user, is_served}
-use Rattle.ds_refinement.specs.Real.{GoesBack, GoesBackBy, HasUnit, IsReal, MayGoBack, RealPath, StopsBy, Through}
+use Rattle.ds_refinement.specs.Real.{GoesBack, GoesBackBy, HasUnit, IsReal, MayGoBack, RealPath, EndsFirstUnit, Through}
 use Rattle.ds_refinement.proofs.Late.{told_store}
 
 pub one_step : (kind : Step) (old new : Held) → Follows kind old new → Moves kind old new → IsReal old new → RealPath old new
 one_step kind old new f m r = record { path = old ∷ []; through = ((kind, f, m, r), refl) }
 
-pub through_both : (old between new : Held) (before behind : List Held) → Through old before between → Through between behind new → Through old (behind ++ before) new
+pub through_both : (old between new : Held) (before afterwards : List Held) → Through old before between → Through between afterwards new → Through old (afterwards ++ before) new
 through_both old between new before [] a b = subst (Through old before) (sym b) a
-through_both old between new before (last ∷ behind) a b = (b.0, through_both old between last before behind a b.1)
+through_both old between new before (last ∷ afterwards) a b = (b.0, through_both old between last before afterwards a b.1)
 
 pub path_join : (old between new : Held) → RealPath old between → RealPath between new → RealPath old new
 path_join old between new a b = record { path = b.path ++ a.path; through = through_both old between new a.path b.path a.through b.through }
@@ -74,7 +74,7 @@ end_real h new p rest why ready served left is ends owed random pairs = record {
   service = λ has at. inl (record {
     owed = owed;
     left = left;
-    stops = subst (λ (ps : List ℕ). StopsBy ps h) (sym ready)
+    stops = subst (λ (ps : List ℕ). EndsFirstUnit ps h) (sym ready)
         (subst (λ (w : Cause). EndsUnit (page_state h.kept.grants h.bus.memory) p h.core.system.bad_vaddr w) (sym is) ends);
   });
   random = λ has. random;

@@ -5,30 +5,30 @@ use Rattle.std.proofs.lemmas.Bool.Decides.{nat_tests}
 use Rattle.std.proofs.lemmas.Option.{slice_get-get_or, slice_get_within, get_or_from_slice_get}
 use Rattle.std.proofs.lemmas.List.{get_or-set_same}
 use Rattle.ds_tlb.specs.declared.entry.Entry.{Entry}
-use Rattle.ds_tlb.specs.Entries.{ticked, matches, find}
+use Rattle.ds_tlb.specs.Entries.{random_after, matches, find}
 use Rattle.ds_tlb.proofs.Bits.{read_set_other}
 use Rattle.ds_tlb.proofs.Matches.{missed_match}
-use Rattle.ds_refinement.specs.KeptEntries.{behind, IsKept}
+use Rattle.ds_refinement.specs.KeptEntries.{steps_since, IsKept}
 
 -- what stands at another place stays
 pub other_stays : (entries : List Entry) (at slot : ℕ) (e other : Entry) → slot ≢ at → slice_get entries slot ≡ Some e → slice_get (slice_set entries at other) slot ≡ Some e
 other_stays entries at slot e other apart is = read_set_other entries at slot other apart ∙ is
 
 -- Random stands nowhere where it stood lately
-apart : (slot random : ℕ) → 1 ≤ behind slot random → slot ≢ random
+apart : (slot random : ℕ) → 1 ≤ steps_since slot random → slot ≢ random
 apart slot random since = λ (e : ◌≡◌ {A = ℕ} slot random). grind (arith, nat_tests)
 
 -- Random goes a step on
-pub goes_on : (slot random n : ℕ) → 8 ≤ random → random < 64 → 8 ≤ slot → slot < 64 → n < 55 → behind slot random ≤ n → behind slot (ticked 64 8 random) ≡ behind slot random + 1
+pub goes_on : (slot random n : ℕ) → 8 ≤ random → random < 64 → 8 ≤ slot → slot < 64 → n < 55 → steps_since slot random ≤ n → steps_since slot (random_after 64 8 random) ≡ steps_since slot random + 1
 goes_on slot random n a b c d e f = grind (arith, nat_tests)
 
-pub behind_first : (random : ℕ) → 8 ≤ random → random < 64 → behind random (ticked 64 8 random) ≡ 1
-behind_first random a b = grind (arith, nat_tests)
+pub past_first : (random : ℕ) → 8 ≤ random → random < 64 → steps_since random (random_after 64 8 random) ≡ 1
+past_first random a b = grind (arith, nat_tests)
 
-pub begins : (entries : List Entry) (e : Entry) (random : ℕ) → length entries ≡ 64 → 8 ≤ random → random < 64 → IsKept (slice_set entries random e) (ticked 64 8 random) 1 e.vpn e.asid
+pub begins : (entries : List Entry) (e : Entry) (random : ℕ) → length entries ≡ 64 → 8 ≤ random → random < 64 → IsKept (slice_set entries random e) (random_after 64 8 random) 1 e.vpn e.asid
 begins entries e random size low high =
     let same = length-set entries random e in
-    let first = behind_first random low high in
+    let first = past_first random low high in
     record {
       slot = random;
       entry = e;
@@ -41,7 +41,7 @@ begins entries e random size low high =
       few = omega arith;
     }
 
-pub steps : (entries : List Entry) (random n vpn asid : ℕ) → 8 ≤ random → random < 64 → n < 55 → IsKept entries random n vpn asid → IsKept entries (ticked 64 8 random) (n + 1) vpn asid
+pub steps : (entries : List Entry) (random n vpn asid : ℕ) → 8 ≤ random → random < 64 → n < 55 → IsKept entries random n vpn asid → IsKept entries (random_after 64 8 random) (n + 1) vpn asid
 steps entries random n vpn asid a b c k =
     let e = goes_on k.slot random n a b k.low k.high c k.few in
     let since = k.since in

@@ -20,10 +20,11 @@ use Rattle.ds_amap.specs.declared.map.Fault.{Fault}
 use Rattle.ds_amap.specs.declared.map.Fault.TheVariants.{Modified}
 use Rattle.ds_cp0.specs.System.{System, entered, with_field}
 use Rattle.ds_core.specs.Core.{CoreState}
-use Rattle.ds_core.specs.Access.{refusal}
+use Rattle.ds_core.specs.Access.{access_exception}
 use Rattle.ds_grants.specs.State.{GrantsState, is_shared}
 use Rattle.ds_refinement.specs.declared.cause.Cause.TheVariants as cause
-use Rattle.ds_refinement.specs.Told.{code_in, own_in, is_store_code, size_at, system_behind, told}
+use Rattle.ds_refinement.specs.Told.{code_in, own_in, is_store_code, size_at, told}
+use Rattle.ds_refinement.specs.Inner.Told.{system_after}
 use Rattle.ds_refinement.specs.Copying.{AwaitsCopy}
 use Rattle.ds_refinement.specs.Units.{EndsUnit}
 use Rattle.ds_refinement.proofs.Exceptions.{code_told, address_told}
@@ -33,7 +34,7 @@ use Rattle.ds_refinement.proofs.Denials.{IsLate}
 
 -- EntryHi names the page of a store that was refused.
 
-pub shows_store : (c : CoreState) (access : Kind) (address : ℕ) → (entered c.system (refusal c access address Modified)).entry_hi ≡ with_field c.system.entry_hi 12 20 (bits address 12 20)
+pub shows_store : (c : CoreState) (access : Kind) (address : ℕ) → (entered c.system (access_exception c access address Modified)).entry_hi ≡ with_field c.system.entry_hi 12 20 (bits address 12 20)
 shows_store c access address = refl
 
 pub page_below : (w a : ℕ) → nat_le (2 ^ 31) a ≡ false → bits (with_field w 12 20 (bits a 12 20)) 12 20 ≡ a / 2 ^ 12
@@ -82,14 +83,14 @@ lets_store (Some grant) offset page at allowed = by_its_right grant.right grant 
 -- A refused store to a page in whose frame another may lie waits for a copy.
 module _ (c : CoreState) (g : GrantsState) (size : Size) (address p page offset : ℕ) (allowed : decide g.table p Store size address ≡ Allowed page offset) (shared : is_shared g page ≡ true) where
   abbrev s : System
-  s = system_behind c Store address Modified
+  s = system_after c Store address Modified
 
   bad : s.bad_vaddr ≡ address
-  bad = address_told c.system (refusal c Store address Modified) address refl
+  bad = address_told c.system (access_exception c Store address Modified) address refl
 
-  store_awaits : AwaitsCopy (system_behind c Store address Modified) g p
+  store_awaits : AwaitsCopy (system_after c Store address Modified) g p
   store_awaits = record {
-    code = code_told c.system (refusal c Store address Modified);
+    code = code_told c.system (access_exception c Store address Modified);
     address = ap (λ (w : ℕ). bits w 12 20) (shows_store c Store address) ∙ (page_below c.system.entry_hi address (allowed_low g.table p Store size address page offset allowed) ∙ ap (λ (a : ℕ). a / 2 ^ 12) (sym bad));
     page = page;
     offset = offset;
@@ -98,10 +99,10 @@ module _ (c : CoreState) (g : GrantsState) (size : Size) (address p page offset 
   }
 
 pub late_awaits : (c : CoreState) (g : GrantsState) (access : Kind) (size : Size) (address : ℕ) (fault : Fault) (p page offset : ℕ) → IsLate g access fault page → decide g.table p access size address ≡ Allowed page offset
-    → AwaitsCopy (system_behind c access address fault) g p
+    → AwaitsCopy (system_after c access address fault) g p
 late_awaits c g access size address fault p page offset late allowed =
-    subst (λ (f : Fault). AwaitsCopy (system_behind c access address f) g p) (sym late.refused)
-    (subst (λ (k : Kind). AwaitsCopy (system_behind c k address Modified) g p) (sym late.store)
+    subst (λ (f : Fault). AwaitsCopy (system_after c access address f) g p) (sym late.refused)
+    (subst (λ (k : Kind). AwaitsCopy (system_after c k address Modified) g p) (sym late.store)
     (store_awaits c g size address p page offset (ap (λ (k : Kind). decide g.table p k size address) (sym late.store) ∙ allowed) late.shared))
 
 -- What waits for a copy is told as a store of a byte.

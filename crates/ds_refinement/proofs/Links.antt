@@ -12,7 +12,7 @@ use Rattle.ds_isa.specs.Fields as fields
 use Rattle.ds_isa.specs.Fields.{in_word}
 use Rattle.ds_isa.specs.Instruction.{Row, rows, fits, by_rows, of_no_row, is_coprocessor, instruction_of}
 use Rattle.ds_isa.specs.Registers.{Registers, late_or, read, settled, written}
-use Rattle.ds_isa.specs.Meaning.{Effect, Goes, Branches, Loads, Stores, Faults, Calls, Privileged, meaning, written_or_trap, behind_slot, branch_target, jump_target}
+use Rattle.ds_isa.specs.Meaning.{Effect, Goes, Branches, Loads, Stores, Faults, Calls, Privileged, meaning, written_or_trap, past_slot, branch_target, jump_target}
 use Rattle.ds_isa.specs.declared.instr.Kind.{Kind}
 use Rattle.ds_isa.specs.declared.instr.Kind.TheVariants.{Fetch, Load, Store}
 use Rattle.ds_policy.specs.declared.access.Verdict.{Verdict}
@@ -22,7 +22,7 @@ use Rattle.ds_policy.specs.Pages.{decide, bytes_of}
 use Rattle.ds_policy.specs.Grants.{PageState}
 use Rattle.ds_pagemap.specs.Machine.{State, Process, process_of, with_process, touched_process}
 use Rattle.ds_pagemap.specs.Unit.{Went, Branched, instruction, done, where_allowed, with_registers}
-use Rattle.ds_refinement.specs.Services.{touched_registers}
+use Rattle.ds_refinement.specs.Inner.Services.{touched_registers}
 use Rattle.ds_refinement.specs.Units.{IsLinked}
 use Rattle.ds_refinement.proofs.Registers.{HasSeat, registers_put, registers_again, process_put}
 
@@ -39,7 +39,7 @@ IsApart other = Unit {0}
 pub record IsBranch (i : Instr) (pc : ℕ) : Type 0 where
   pub link : ℕ
   pub to : Registers → ℕ
-  pub is : (r : Registers) → meaning i pc r ≡ Branches (written r link (behind_slot pc)) (to r)
+  pub is : (r : Registers) → meaning i pc r ≡ Branches (written r link (past_slot pc)) (to r)
   pub same : (r : Registers) (v : ℕ) → r.late ≡ None → to (written r link v) ≡ to r
 
 -- neither branch nor jump
@@ -168,7 +168,7 @@ pub record BranchAt (s : PageState) (p pc : ℕ) : Type 0 where
   pub branch : IsBranch (instruction_of (word_at (bytes_of s.pages page) offset)) pc
 
 -- what such a branch does
-pub branch_does : (m : State) (p pc : ℕ) (b : BranchAt m.memory p pc) → instruction m p pc ≡ Branched (with_registers m p (written (process_of m p).registers b.branch.link (behind_slot pc))) (b.branch.to (process_of m p).registers)
+pub branch_does : (m : State) (p pc : ℕ) (b : BranchAt m.memory p pc) → instruction m p pc ≡ Branched (with_registers m p (written (process_of m p).registers b.branch.link (past_slot pc))) (b.branch.to (process_of m p).registers)
 unfolding instruction
 branch_does m p pc b =
     ap (λ (v : Verdict). where_allowed v Fetch pc (λ page offset. done m p pc (meaning (instruction_of (word_at (bytes_of m.memory.pages page) offset)) pc (process_of m p).registers))) b.decides
@@ -207,11 +207,11 @@ branched_alike s t a b e = (cc, cc)
 
 -- the link and the target of what branches
 pub branch_is : (m : State) (p pc : ℕ) (r : Registers) (target : ℕ) → HasSeat m p → instruction m p pc ≡ Branched (with_registers m p r) target
-    → (b : BranchAt m.memory p pc) × (r ≡ written (process_of m p).registers b.branch.link (behind_slot pc)) × (target ≡ b.branch.to (process_of m p).registers)
+    → (b : BranchAt m.memory p pc) × (r ≡ written (process_of m p).registers b.branch.link (past_slot pc)) × (target ≡ b.branch.to (process_of m p).registers)
 branch_is m p pc r target seat e =
     let b = is_branch m p pc _ target e in
     let f = branched_alike _ _ _ _ (sym e ∙ branch_does m p pc b) in
-    let w = written (process_of m p).registers b.branch.link (behind_slot pc) in
+    let w = written (process_of m p).registers b.branch.link (past_slot pc) in
     (b, sym (registers_put m p r seat) ∙ (ap (λ (s : State). (process_of s p).registers) f.0 ∙ registers_put m p w seat), f.1)
 
 -- the link leaves nothing late
@@ -231,7 +231,7 @@ pub branches_again : (m : State) (p pc : ℕ) (r : Registers) (target : ℕ) →
 branches_again m p pc r target seat late e =
     let f = branch_is m p pc r target seat e in
     let b = f.0 in
-    let v = behind_slot pc in
+    let v = past_slot pc in
     let s = with_registers m p r in
     let twice : written r b.branch.link v ≡ r = ap (λ (x : Registers). written x b.branch.link v) f.1 ∙ (written_twice (process_of m p).registers b.branch.link v ∙ sym f.1) in
     let same : b.branch.to r ≡ target = ap b.branch.to f.1 ∙ (b.branch.same (process_of m p).registers v late ∙ sym f.2) in
@@ -265,7 +265,7 @@ touched_link m p r target seat e =
     let f = branch_is m p q.pc r target seat e in
     let b = f.0 in
     let l = b.branch.link % 32 in
-    let v = behind_slot q.pc in
+    let v = past_slot q.pc in
     let g = q.registers.general in
     let with_general : List ℕ → Registers = λ (xs : List ℕ). record q.registers { general = xs; late = None } in
     let is : touched_registers r q.pc ≡ with_general (set (set (cond (l == 0) g (set g l v)) 26 0) 27 q.pc) = ap (λ (x : Registers). touched_registers x q.pc) f.1 in

@@ -12,15 +12,15 @@ use Rattle.ds_amap.specs.declared.map.Mode.TheVariants.{Kernel}
 use Rattle.ds_amap.specs.declared.map.Fault.TheVariants.{Address, Invalid, Refill}
 use Rattle.ds_amap.specs.Map.{at_physical, through, through_slot, through_found, translate, place}
 use Rattle.ds_grants.specs.State.{GrantsState}
-use Rattle.ds_asid.specs.Spaces.{Spaces, number_of}
-use Rattle.ds_tables.specs.Places.{Places, ArePlaces, region_of, place_of, frame_of_place, page_of_table}
-use Rattle.ds_tables.specs.Tables.{word_place}
+use Rattle.ds_asid.specs.Spaces.{Spaces, space_number}
+use Rattle.ds_tables.specs.Places.{Places, ArePlaces, region_of, region_place, frame_of_place, page_of_table}
+use Rattle.ds_tables.specs.Tables.{table_word_place}
 use Rattle.ds_tables.proofs.PlaceLemmas.{is_place}
 use Rattle.ds_grants.specs.Buffer.{hi_of, read_only, lo_of, BufferHolds}
 use Rattle.ds_grants.proofs.Fields.{table_lo}
 
 -- a table lies below frame 402
-frame_by : (t : Places) (p r : ℕ) (o : Option ℕ) → ArePlaces t → place_of t p r ≡ o → frame_of_place p o < 402
+frame_by : (t : Places) (p r : ℕ) (o : Option ℕ) → ArePlaces t → region_place t p r ≡ o → frame_of_place p o < 402
 frame_by t p r None a is = omega arith
 frame_by t p r (Some k) a is =
     let at = is_place t p r k a is in
@@ -28,7 +28,7 @@ frame_by t p r (Some k) a is =
     omega arith
 
 pub table_below : (t : Places) (p r : ℕ) → ArePlaces t → page_of_table t p r < 402
-table_below t p r a = frame_by t p r (place_of t p r) a refl
+table_below t p r a = frame_by t p r (region_place t p r) a refl
 
 -- the page of a table, valid and in its frame
 abbrev pub page_entry : ℕ → ℕ → ℕ → Entry
@@ -49,10 +49,10 @@ keys : (vpn asid : ℕ) (e : Entry) → e.g ≡ false → matches vpn asid e ≡
 keys vpn asid e g m = (grind (arith, nat_tests), grind (arith, nat_tests))
 
 -- what is found is the process's page of a table
-pub found_entry : (entries : List Entry) (spaces : Spaces) (g : GrantsState) (t : Places) (p r slot : ℕ) → BufferHolds entries spaces g t → 0 < p → 0 < number_of spaces p
-    → find entries (0xC0000 + r) (number_of spaces p) ≡ Some slot → slice_get entries slot ≡ Some (page_entry (0xC0000 + r) (number_of spaces p) (page_of_table t p r))
+pub found_entry : (entries : List Entry) (spaces : Spaces) (g : GrantsState) (t : Places) (p r slot : ℕ) → BufferHolds entries spaces g t → 0 < p → 0 < space_number spaces p
+    → find entries (0xC0000 + r) (space_number spaces p) ≡ Some slot → slice_get entries slot ≡ Some (page_entry (0xC0000 + r) (space_number spaces p) (page_of_table t p r))
 found_entry entries spaces g t p r slot k running some found =
-    let asid : ℕ = number_of spaces p in
+    let asid : ℕ = space_number spaces p in
     let at = entry_of_match (0xC0000 + r) asid entries slot (found_matches (0xC0000 + r) asid entries slot found) in
     let e = at.0 in
     let key = keys (0xC0000 + r) asid e (k.own slot e at.1) at.2 in
@@ -73,16 +73,16 @@ mapped_there entries asid vpn found small is =
     ∙ ap (λ (n : ℕ). through_found entries (find entries n asid) Load addr) page
     ∙ ap (λ (o : Option ℕ). through_found entries o Load addr) is
 
-pub table_hit : (entries : List Entry) (spaces : Spaces) (g : GrantsState) (t : Places) (p vpn slot : ℕ) → BufferHolds entries spaces g t → ArePlaces t → 0 < p → 0 < number_of spaces p
-    → vpn < 2 ^ 19 → find entries (0xC0000 + vpn / 1024) (number_of spaces p) ≡ Some slot
-    → translate entries (number_of spaces p) Kernel Load (0xC0000000 + 4 * vpn) ≡ Ok (at_physical (word_place (page_of_table t p (region_of (vpn * 2 ^ 12))) (vpn * 2 ^ 12)))
+pub table_hit : (entries : List Entry) (spaces : Spaces) (g : GrantsState) (t : Places) (p vpn slot : ℕ) → BufferHolds entries spaces g t → ArePlaces t → 0 < p → 0 < space_number spaces p
+    → vpn < 2 ^ 19 → find entries (0xC0000 + vpn / 1024) (space_number spaces p) ≡ Some slot
+    → translate entries (space_number spaces p) Kernel Load (0xC0000000 + 4 * vpn) ≡ Ok (at_physical (table_word_place (page_of_table t p (region_of (vpn * 2 ^ 12))) (vpn * 2 ^ 12)))
 table_hit entries spaces g t p vpn slot k places running some small found =
     let addr : ℕ = 0xC0000000 + 4 * vpn in
     let region : vpn * 2 ^ 12 / 2 ^ 22 ≡ vpn / 1024 = omega arith in
     let offset : (0xC0000000 + 4 * vpn) % 2 ^ 12 ≡ vpn * 2 ^ 12 / 2 ^ 12 % 2 ^ 10 * 4 = omega arith in
-    mapped_there entries (number_of spaces p) vpn (Some slot) small found
+    mapped_there entries (space_number spaces p) vpn (Some slot) small found
     ∙ ap (λ (o : Option Entry). through_slot o Load addr) (found_entry entries spaces g t p (vpn / 1024) slot k running some found)
-    ∙ let_through (0xC0000 + vpn / 1024) (number_of spaces p) (page_of_table t p (vpn / 1024)) addr (table_below t p (vpn / 1024) places)
+    ∙ let_through (0xC0000 + vpn / 1024) (space_number spaces p) (page_of_table t p (vpn / 1024)) addr (table_below t p (vpn / 1024) places)
     ∙ ap₂ (λ (f o : ℕ). Ok (at_physical (f * 2 ^ 12 + o))) (ap (page_of_table t p) (sym region)) offset
 
 pub table_miss_is : (entries : List Entry) (asid vpn : ℕ) → vpn < 2 ^ 19 → find entries (0xC0000 + vpn / 1024) asid ≡ None

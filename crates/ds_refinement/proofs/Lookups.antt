@@ -29,12 +29,12 @@ use Rattle.ds_grants.specs.Buffer.{hi_of, BufferHolds}
 use Rattle.ds_grants.specs.Sound.{NamesPages}
 use Rattle.ds_grants.proofs.Fields.{user_lo}
 use Rattle.ds_grants.proofs.Living.{found_lives}
-use Rattle.ds_asid.specs.Spaces.{Spaces, number_of}
+use Rattle.ds_asid.specs.Spaces.{Spaces, space_number}
 use Rattle.ds_tables.specs.Places.{Places}
 use Rattle.ds_core.specs.Core.{CoreState}
 use Rattle.ds_core.specs.Access.{reached}
 use Rattle.ds_refinement.specs.Held.{Kept, space_of}
-use Rattle.ds_refinement.specs.Granted.{IsGranted}
+use Rattle.ds_refinement.specs.Inner.Granted.{IsGranted}
 
 -- a page that an entry of the table names lives
 pub named_page_lives : (g : GrantsState) (p address page : ℕ) (grant : Grant) → entry_at g.table p address ≡ Some grant → grant.page ≡ Some page → is_live g page ≡ true
@@ -148,11 +148,11 @@ pub page_of_number : (address vpn : ℕ) → vpn ≡ address / 2 ^ 12 → addres
 page_of_number address vpn is = omega arith
 
 -- An access of a user, whose process has this address space.
-module _ (c : CoreState) (g : GrantsState) (t : Places) (spaces : Spaces) (p : ℕ) (holds : BufferHolds c.entries spaces g t) (names : NamesPages g) (some : 0 < p) (number : 0 < number_of spaces p) (access : Kind) (size : Size) (address : ℕ) (place : Physical) where
+module _ (c : CoreState) (g : GrantsState) (t : Places) (spaces : Spaces) (p : ℕ) (holds : BufferHolds c.entries spaces g t) (names : NamesPages g) (some : 0 < p) (number : 0 < space_number spaces p) (access : Kind) (size : Size) (address : ℕ) (place : Physical) where
   -- what an entry lets go is granted
-  by_slot : (slot : ℕ) (e : Entry) → find c.entries (address / 2 ^ 12) (number_of spaces p) ≡ Some slot → slice_get c.entries slot ≡ Some e → through e access address ≡ Ok place → is_aligned size address ≡ true → nat_le (2 ^ 31) address ≡ false → IsGranted g p access size address place.0
+  by_slot : (slot : ℕ) (e : Entry) → find c.entries (address / 2 ^ 12) (space_number spaces p) ≡ Some slot → slice_get c.entries slot ≡ Some e → through e access address ≡ Ok place → is_aligned size address ≡ true → nat_le (2 ^ 31) address ≡ false → IsGranted g p access size address place.0
   by_slot slot e found at is aligned low =
-      let of = found_of c.entries (address / 2 ^ 12) (number_of spaces p) slot e found at (holds.own slot e at) in
+      let of = found_of c.entries (address / 2 ^ 12) (space_number spaces p) slot e found at (holds.own slot e at) in
       let small : address < 2 ^ 31 = grind (arith, nat_tests) in
       let page : e.vpn ≡ address / 2 ^ 12 = of.0 in
       let user : e.vpn < 2 ^ 19 = omega (arith, small, page) in
@@ -173,25 +173,25 @@ module _ (c : CoreState) (g : GrantsState) (t : Places) (spaces : Spaces) (p : �
         alone = w.alone;
       }
 
-  by_entry_at : (slot : ℕ) (at : Option Entry) → find c.entries (address / 2 ^ 12) (number_of spaces p) ≡ Some slot → slice_get c.entries slot ≡ at → through_slot at access address ≡ Ok place → is_aligned size address ≡ true → nat_le (2 ^ 31) address ≡ false → IsGranted g p access size address place.0
+  by_entry_at : (slot : ℕ) (at : Option Entry) → find c.entries (address / 2 ^ 12) (space_number spaces p) ≡ Some slot → slice_get c.entries slot ≡ at → through_slot at access address ≡ Ok place → is_aligned size address ≡ true → nat_le (2 ^ 31) address ≡ false → IsGranted g p access size address place.0
   by_entry_at slot None found at is aligned low = absurd cc
   by_entry_at slot (Some e) found at is aligned low = by_slot slot e found at is aligned low
 
-  by_found : (found : Option ℕ) → find c.entries (address / 2 ^ 12) (number_of spaces p) ≡ found → through_found c.entries found access address ≡ Ok place → is_aligned size address ≡ true → nat_le (2 ^ 31) address ≡ false → IsGranted g p access size address place.0
+  by_found : (found : Option ℕ) → find c.entries (address / 2 ^ 12) (space_number spaces p) ≡ found → through_found c.entries found access address ≡ Ok place → is_aligned size address ≡ true → nat_le (2 ^ 31) address ≡ false → IsGranted g p access size address place.0
   by_found None found is aligned low = absurd cc
   by_found (Some slot) found is aligned low = by_entry_at slot (slice_get c.entries slot) found refl is aligned low
 
   -- alignment, the user's half, and the buffer
   by_tests : (aligned high : Bool) → is_aligned size address ≡ aligned → nat_le (2 ^ 31) address ≡ high
-      → cond (not aligned) (Err Address) (cond (not (not (high && true))) (Err Address) (cond (high && nat_lt address 0xC0000000) (Ok (at_physical (address % 2 ^ 29))) (through_found c.entries (find c.entries (address / 2 ^ 12) (number_of spaces p)) access address))) ≡ Ok place
+      → cond (not aligned) (Err Address) (cond (not (not (high && true))) (Err Address) (cond (high && nat_lt address 0xC0000000) (Ok (at_physical (address % 2 ^ 29))) (through_found c.entries (find c.entries (address / 2 ^ 12) (space_number spaces p)) access address))) ≡ Ok place
       → IsGranted g p access size address place.0
   by_tests false high a h is = absurd cc
   by_tests true true a h is = absurd cc
-  by_tests true false a h is = by_found (find c.entries (address / 2 ^ 12) (number_of spaces p)) refl is a h
+  by_tests true false a h is = by_found (find c.entries (address / 2 ^ 12) (space_number spaces p)) refl is a h
 
 -- what a user reaches is granted, whatever number its process has
-number_reaches : (c : CoreState) (g : GrantsState) (t : Places) (spaces : Spaces) (p : ℕ) → is_user c.system ≡ true → BufferHolds c.entries spaces g t → NamesPages g → 0 < p → 0 < number_of spaces p
-    → asid_of c.system ≡ number_of spaces p → (access : Kind) (size : Size) (address : ℕ) (place : Physical) → reached c access size address ≡ Ok place → IsGranted g p access size address place.0
+number_reaches : (c : CoreState) (g : GrantsState) (t : Places) (spaces : Spaces) (p : ℕ) → is_user c.system ≡ true → BufferHolds c.entries spaces g t → NamesPages g → 0 < p → 0 < space_number spaces p
+    → asid_of c.system ≡ space_number spaces p → (access : Kind) (size : Size) (address : ℕ) (place : Physical) → reached c access size address ≡ Ok place → IsGranted g p access size address place.0
 number_reaches c g t spaces p user holds names some number space access size address place is =
     by_tests c g t spaces p holds names some number access size address place (is_aligned size address) (nat_le (2 ^ 31) address) refl refl (rw (user, space) at is)
 

@@ -11,7 +11,8 @@ use Rattle.ds_isa.specs.declared.instr.Kind.{Kind}
 use Rattle.ds_isa.specs.declared.instr.Kind.TheVariants as kind
 use Rattle.ds_isa.specs.declared.instr.Instr.{Instr}
 use Rattle.ds_isa.specs.declared.instr.Instr.TheVariants as instr
-use Rattle.ds_isa.specs.Access.{access_size, size_asked, is_store}
+use Rattle.ds_isa.specs.Access.{access_size, is_store}
+use Rattle.ds_isa.specs.Inner.Access.{size_asked}
 use Rattle.ds_isa.specs.Registers.{Registers, read, settled}
 use Rattle.ds_isa.specs.Instruction.{instruction_of}
 use Rattle.ds_isa.specs.Meaning.{Effect, Goes, Branches, Loads, Stores, Faults, Calls, Privileged, meaning, written_or_trap}
@@ -22,45 +23,46 @@ use Rattle.ds_policy.specs.Pages.{decide, bytes_of}
 use Rattle.ds_policy.specs.Grants.{PageState}
 use Rattle.ds_grants.specs.State.{GrantsState, page_state}
 use Rattle.ds_grants.specs.Buffer.{BufferHolds}
-use Rattle.ds_grants.specs.Represented.{IsHigh}
+use Rattle.ds_grants.specs.Inner.Represented.{IsHigh}
 use Rattle.ds_grants.proofs.Kept.{high_stored}
 use Rattle.ds_grants.specs.Sound.{NamesPages}
 use Rattle.ds_amap.specs.declared.map.Physical.{Physical}
 use Rattle.ds_amap.specs.declared.map.Fault.{Fault}
 use Rattle.ds_amap.specs.declared.map.Fault.TheVariants.{Address, Refill, Invalid, Modified}
-use Rattle.ds_tlb.specs.Entries.{ticked}
+use Rattle.ds_tlb.specs.Entries.{random_after}
 use Rattle.ds_cp0.specs.declared.exception.Exception.{Exception}
 use Rattle.ds_cp0.specs.declared.exception.ExceptionCode.TheVariants.{SystemCall, ReservedInstruction, Breakpoint, Overflow, LoadMiss, StoreMiss}
-use Rattle.ds_cp0.specs.Codes.{number_of, is_translation}
+use Rattle.ds_cp0.specs.Codes.{code_number, is_translation}
 use Rattle.ds_cp0.specs.System.{entered, asid_of, is_user, vector}
 use Rattle.ds_dev.specs.Bus.{BusState, is_memory}
 use Rattle.ds_core.specs.declared.event.Event.TheVariants as event
 use Rattle.ds_core.specs.Core as core
 use Rattle.ds_core.specs.Core.{CoreState, exception, with_tick, core_at_next, core_at_vector, branched_core}
 use Rattle.ds_core.specs.Access as reach
-use Rattle.ds_core.specs.Access.{reached, refusal}
-use Rattle.ds_core.specs.Coprocessor.{is_usable, unit_of, unusable_exception}
+use Rattle.ds_core.specs.Access.{reached, access_exception}
+use Rattle.ds_core.specs.Coprocessor.{is_coprocessor_usable, unit_of, unusable_exception}
 use Rattle.ds_core.specs.Effect as whole
 use Rattle.ds_pagemap.specs.Machine.{State, process_of}
 use Rattle.ds_pagemap.specs.Unit.{Outcome, Went, Branched, Called, Stopped, instruction, done, where_allowed, with_registers, stored, fault}
-use Rattle.ds_refinement.specs.Told.{own_in, kind_told, size_told, size_at, size_on, system_behind, told}
+use Rattle.ds_refinement.specs.Told.{own_in, kind_told, size_told, size_at, size_on, told}
+use Rattle.ds_refinement.specs.Inner.Told.{system_after}
 use Rattle.ds_refinement.specs.Units.{user_status, EndsUnit}
-use Rattle.ds_refinement.specs.Handling.{IsMiss}
-use Rattle.ds_refinement.specs.Real.{IsNoBusError}
+use Rattle.ds_refinement.specs.Inner.Handling.{IsMiss}
+use Rattle.ds_refinement.specs.Inner.Real.{IsNoBusError}
 use Rattle.ds_refinement.specs.Held.{Kept, space_of}
 use Rattle.ds_refinement.specs.Copying.{AwaitsCopy}
-use Rattle.ds_refinement.specs.Granted.{IsGranted}
-use Rattle.ds_refinement.specs.Leaves.{Leaves}
+use Rattle.ds_refinement.specs.Inner.Granted.{IsGranted}
+use Rattle.ds_refinement.specs.Inner.Leaves.{Leaves}
 use Rattle.ds_refinement.proofs.Frames.{word_of_page, state_stored, size_stored}
 use Rattle.ds_refinement.proofs.Lookups.{user_reaches, user_misses}
 use Rattle.ds_refinement.proofs.Refusals.{load_kind, load_answer, store_kind, store_answer, fetch_kind, fetch_answer}
 use Rattle.ds_refinement.proofs.Denials.{refused_late}
 use Rattle.ds_refinement.proofs.Late.{late_awaits}
-use Rattle.ds_refinement.proofs.Leaving.{IsFaultCode, leaves_fault, leaves_branch, leaves_call, leaves_access, ends_fault, ends_call, ends_access, own_behind}
+use Rattle.ds_refinement.proofs.Leaving.{IsFaultCode, leaves_fault, leaves_branch, leaves_call, leaves_access, ends_fault, ends_call, ends_access, own_after}
 
 -- the processor with Random counted down
 abbrev pub counted : CoreState → CoreState
-counted c = record c { random = ticked 64 8 c.random }
+counted c = record c { random = random_after 64 8 c.random }
 
 -- the instruction is done by both
 pub record Retires (c : CoreState) (b : BusState) (g : GrantsState) (m : State) (p : ℕ) (o : Outcome) (s : core.Step) : Type 0 where
@@ -103,7 +105,7 @@ KnownFault (Goes after) = ⊤
 KnownFault (Branches after target) = ⊤
 KnownFault (Loads size address after) = ⊤
 KnownFault (Stores size address after) = ⊤
-KnownFault (Faults code) = (number_of (whole.fault_code code) ≡ code) × IsFaultCode code
+KnownFault (Faults code) = (code_number (whole.fault_code code) ≡ code) × IsFaultCode code
 KnownFault Calls = ⊤
 KnownFault Privileged = ⊤
 
@@ -136,7 +138,7 @@ neither : (a b c : Bool) → b ≡ true → c ≡ false → ((a && not b) || c) 
 neither true b c e f = rw (e, f) refl
 neither false b c e f = f
 
-pub barred : (c : CoreState) (unit : ℕ) → c.system.status ≡ user_status → is_usable c unit ≡ false
+pub barred : (c : CoreState) (unit : ℕ) → c.system.status ≡ user_status → is_coprocessor_usable c unit ≡ false
 barred c unit mode =
     neither (unit % 4 == 0) (is_user c.system) (bits c.system.status (28 + unit % 4) 1 == 1)
     (ap (λ (w : ℕ). bits w 1 1 == 1) mode) (ap (λ (w : ℕ). bits w (28 + unit % 4) 1 == 1) mode ∙ no_bit (unit % 4) (low_bits unit))
@@ -171,7 +173,7 @@ miss_code true = refl
 miss_code false = refl
 
 refusal_missed : (c : CoreState) (access : Kind) (size : Size) (address : ℕ) (fault : Fault) → is_user c.system ≡ true → reached c access size address ≡ Err fault
-    → vector (refusal c access address fault) ≡ 0x80000000 → IsMiss c (refusal c access address fault)
+    → vector (access_exception c access address fault) ≡ 0x80000000 → IsMiss c (access_exception c access address fault)
 refusal_missed c access size address Refill user is at =
     let missed = user_misses c access size address user is in
     record { address = address; user = missed.0; is = refl; code = miss_code (is_store access); miss = refl; missed = missed.1 }
@@ -203,14 +205,14 @@ module _ (c : CoreState) (b : BusState) (k : Kept) (m : State) (p : ℕ)
 
   -- one that the buffer's refusal of an access raises
   refused : (access : Kind) (size : Size) (address : ℕ) (fault : Fault) (f : ℕ → ℕ → Outcome) → reached c access size address ≡ Err fault
-      → let s = system_behind c access address fault in
+      → let s = system_after c access address fault in
       kind_told s ≡ access
       → decide m.memory.table p (kind_told s) (size_told s (size_at m.memory p (own_in s))) address ≡ decide m.memory.table p access size address
-      → Meets c b k.grants m p (where_allowed (decide m.memory.table p access size address) access address f) (with_tick (core.at_vector c b (refusal c access address fault)))
+      → Meets c b k.grants m p (where_allowed (decide m.memory.table p access size address) access address f) (with_tick (core.at_vector c b (access_exception c access address fault)))
   refused access size address fault f is kind answer =
-      left (refusal c access address fault) (where_allowed (decide m.memory.table p access size address) access address f) refl refl
+      left (access_exception c access address fault) (where_allowed (decide m.memory.table p access size address) access address f) refl refl
       (leaves_access c access size address fault p m.memory f kind answer)
-      (λ general. ends_access (AwaitsCopy (system_behind c access address fault) k.grants p) c access size address fault p m.memory answer
+      (λ general. ends_access (AwaitsCopy (system_after c access address fault) k.grants p) c access size address fault p m.memory answer
       (λ page offset allowed.
       let granted : decide k.grants.table p access size address ≡ Allowed page offset = sym (ap (λ (s : PageState). decide s.table p access size address) pages) ∙ allowed in
       late_awaits c k.grants access size address fault p page offset
@@ -268,8 +270,8 @@ module _ (c : CoreState) (b : BusState) (k : Kept) (m : State) (p : ℕ)
         → Meets c b k.grants m p (where_allowed (decide m.memory.table p kind.Load size address) kind.Load address (λ page offset. Went (with_registers m p (after (word_at (bytes_of m.memory.pages page) offset)))))
         (with_tick (reach.loaded_from c b size address after r))
     load_meets size address after asked (Err fault) is =
-        let s = system_behind c kind.Load address fault in
-        let own : size_at m.memory p (own_in s) ≡ size = ap (size_at m.memory p) (own_behind c kind.Load address fault small) ∙ asked in
+        let s = system_after c kind.Load address fault in
+        let own : size_at m.memory p (own_in s) ≡ size = ap (size_at m.memory p) (own_after c kind.Load address fault small) ∙ asked in
         refused kind.Load size address fault _ is (load_kind c size address fault fetched small is fetches)
         (ap (λ (x : Size). decide m.memory.table p (kind_told s) (size_told s x) address) own ∙ load_answer c size address fault fetched m.memory.table p small is fetches)
     load_meets size address after asked (Ok place) is =
@@ -284,8 +286,8 @@ module _ (c : CoreState) (b : BusState) (k : Kept) (m : State) (p : ℕ)
         → Meets c b k.grants m p (where_allowed (decide m.memory.table p kind.Store size address) kind.Store address (λ page offset. Went (stored (with_registers m p (settled (process_of m p).registers)) page offset after)))
         (with_tick (reach.stored_to c b size address after r))
     store_meets size address after asked (Err fault) is =
-        let s = system_behind c kind.Store address fault in
-        let own : size_at m.memory p (own_in s) ≡ size = ap (size_at m.memory p) (own_behind c kind.Store address fault small) ∙ asked in
+        let s = system_after c kind.Store address fault in
+        let own : size_at m.memory p (own_in s) ≡ size = ap (size_at m.memory p) (own_after c kind.Store address fault small) ∙ asked in
         refused kind.Store size address fault _ is (store_kind c address fault)
         (ap (λ (x : Size). decide m.memory.table p (kind_told s) (size_told s x) address) own ∙ store_answer c size address fault m.memory.table p is)
     store_meets size address after asked (Ok place) is =
@@ -319,7 +321,7 @@ module _ (c : CoreState) (b : BusState) (k : Kept) (m : State) (p : ℕ)
       (with_tick (whole.fetched_from c b r))
   fetch_meets (Err fault) is =
       refused kind.Fetch Word c.pc fault _ is (fetch_kind c fault small is)
-      (fetch_answer c (size_at m.memory p (own_in (system_behind c kind.Fetch c.pc fault))) fault m.memory.table p small is)
+      (fetch_answer c (size_at m.memory p (own_in (system_after c kind.Fetch c.pc fault))) fault m.memory.table p small is)
   fetch_meets (Ok place) is =
       let a = granted kind.Fetch Word c.pc place is in
       let d = allowed_here kind.Fetch Word c.pc place.0 a in
@@ -334,6 +336,6 @@ module _ (c : CoreState) (b : BusState) (k : Kept) (m : State) (p : ℕ)
       (rw (in_memory place.0 a.small) (effect_meets place is i (meaning i c.pc c.registers) (sizes_alike i c.pc c.registers) (known i c.pc c.registers) sized))
 
   -- one instruction of both
-  pub instruction_meets : Meets c b k.grants m p (instruction m p c.pc) (with_tick (whole.instruction c b))
+  pub instruction_meets : Meets c b k.grants m p (instruction m p c.pc) (with_tick (whole.instruction_step c b))
   unfolding instruction
   instruction_meets = fetch_meets (reached c kind.Fetch Word c.pc) refl

@@ -15,8 +15,8 @@ use Rattle.ds_pagemap.specs.Machine.{State, Process, process_of, touched, touche
 use Rattle.ds_pagemap.specs.Unit.{Outcome, Went, Branched, Called, Stopped, instruction, done, where_allowed}
 use Rattle.ds_pagemap.proofs.Touches.{touched_again}
 use Rattle.ds_refinement.proofs.Registers.{HasSeat, process_put}
-use Rattle.ds_refinement.specs.Course.{after_touch}
-use Rattle.ds_refinement.specs.Needs.{page_of, asked_by, asked_where, asked_at, asked_after, data_page, pages_of}
+use Rattle.ds_refinement.specs.Inner.Course.{after_touch}
+use Rattle.ds_refinement.specs.Needs.{page_of_address, asked_by, asked_where, asked_at, asked_after, data_page, pages_of_unit}
 
 -- What asks for data is no branch.
 
@@ -58,13 +58,13 @@ pub slot_asks : (m after : State) (p target page : ℕ) → instruction m p (pro
 slot_asks m after p target page is asks = ap (asked_after m p (process_of m p).pc) is ∙ asks
 
 -- A touch leaves what a unit asks for, but for its data; a second one leaves all.
-pub pages_touched : (m : State) (p : ℕ) (rest : List ℕ) → m.ready ≡ p ∷ rest → HasSeat m p → pages_of (touched true m) p ≡ after_touch (pages_of m p)
+pub pages_touched : (m : State) (p : ℕ) (rest : List ℕ) → m.ready ≡ p ∷ rest → HasSeat m p → pages_of_unit (touched true m) p ≡ after_touch (pages_of_unit m p)
 pages_touched m p rest ready seat =
     let first : (process_of (touched true m) p).pc ≡ (process_of m p).pc =
     ap (λ (rs : List ℕ). (process_of (touch_first m rs) p).pc) ready ∙ ap (λ (q : Process). q.pc) (process_put m p (touched_process (process_of m p)) seat) in
     ap₂ (λ (pc : ℕ) (s : State). record {
-      fetch = page_of pc;
-      slot = page_of (word (pc + 4));
+      fetch = page_of_address pc;
+      slot = page_of_address (word (pc + 4));
       access = unwrap_or (data_page (touched true m) p) 0;
       touched = unwrap_or (data_page s p) 0;
     }) first (touched_again true m)

@@ -1,23 +1,26 @@
 -- A refill at once is a path of nine steps.
 use Rattle.std.proofs.Common.{◌≡◌, ◌≢◌, ℕ, suc, ◌+◌, ◌≤◌, Bool, true, false, List, [], ◌∷◌, None, refl, sym, ap, ap₂, subst, ◌∙◌, arith}
 use Rattle.std.specs.Prelude.{not, ◌&&◌, ◌==◌}
-use Rattle.ds_tlb.specs.Entries.{ticked, passed}
+use Rattle.ds_tlb.specs.Entries.{random_after}
+use Rattle.ds_tlb.specs.Inner.Entries.{passed}
 use Rattle.ds_cp0.specs.System.{is_user}
 use Rattle.ds_core.specs.declared.event.Event.{Event}
 use Rattle.ds_core.specs.Core.{CoreState}
 use Rattle.ds_core.specs.Effect.{step}
-use Rattle.ds_refill.specs.Handler.{address_of}
-use Rattle.ds_refill.specs.Refill.{handler_events}
-use Rattle.ds_refill.specs.Refills.{RunsInside}
+use Rattle.ds_refill.specs.Handler.{handler_address}
+use Rattle.ds_refill.specs.Inner.Refill.{handler_events}
+use Rattle.ds_refill.specs.Inner.Refills.{RunsInside}
 use Rattle.ds_refinement.specs.declared.step.Step.TheVariants.{Inside}
 use Rattle.ds_refinement.specs.Held.{Held}
-use Rattle.ds_refinement.specs.Counts.{Counts, counts_of, with_counts, one_word, one_refilled}
+use Rattle.ds_refinement.specs.Counts.{Counts, counts_of, one_word}
+use Rattle.ds_refinement.specs.Inner.Counts.{with_counts, one_refilled}
 use Rattle.ds_refinement.specs.Units.{is_general, is_served}
-use Rattle.ds_refinement.specs.Stands.{IsSound}
+use Rattle.ds_refinement.specs.Inner.Stands.{IsSound}
 use Rattle.ds_refinement.specs.Steps.{Follows, Moves}
-use Rattle.ds_refinement.specs.Services.{after_word, with_refill}
+use Rattle.ds_refinement.specs.Inner.Services.{after_word, with_refill}
 use Rattle.ds_refinement.specs.Real.{IsReal, RealPath}
-use Rattle.ds_refinement.specs.Runs.{RunsWithin, held_goes_on}
+use Rattle.ds_refinement.specs.Runs.{held_goes_on}
+use Rattle.ds_refinement.specs.Inner.Runs.{RunsWithin}
 use Rattle.ds_refinement.proofs.Tallied.{few_of}
 use Rattle.ds_refinement.proofs.Words.{word_follows}
 use Rattle.ds_refinement.proofs.Counting.{word_moves}
@@ -27,17 +30,17 @@ use Rattle.ds_refinement.proofs.RunSteps.{within_step}
 -- what is counted after these words, the first of which is word n, before which Random names a slot
 abbrev counted : ℕ → List Event → ℕ → Counts → Counts
 counted n [] random k = k
-counted n (e ∷ es) random k = counted (suc n) es (ticked 64 8 random) (one_word (address_of n == address_of 6) random k)
+counted n (e ∷ es) random k = counted (suc n) es (random_after 64 8 random) (one_word (handler_address n == handler_address 6) random k)
 
 -- and what is held
 abbrev reached : ℕ → List Event → Held → CoreState → Held
 reached n es h c = record h { core = c; own = with_counts h.own (counted n es h.core.random (counts_of h.own)) }
 
 -- One word, which counts.
-module _ (n : ℕ) (e : Event) (h : Held) (s : CoreState) (some : h.kept.state.ready ≢ []) (user : is_user h.core.system ≡ false) (general : is_general h.core ≡ false) (at : h.core.pc ≡ address_of n)
+module _ (n : ℕ) (e : Event) (h : Held) (s : CoreState) (some : h.kept.state.ready ≢ []) (user : is_user h.core.system ≡ false) (general : is_general h.core ≡ false) (at : h.core.pc ≡ handler_address n)
     (is : step h.core h.bus ≡ record { event = e; core = s; bus = h.bus }) where
   abbrev next : Held
-  next = record h { core = s; own = with_counts h.own (one_word (address_of n == address_of 6) h.core.random (counts_of h.own)) }
+  next = record h { core = s; own = with_counts h.own (one_word (handler_address n == handler_address 6) h.core.random (counts_of h.own)) }
 
   unserved : is_served h.core ≡ false
   unserved = ap₂ (λ (u g : Bool). not u && g) user general
@@ -45,7 +48,7 @@ module _ (n : ℕ) (e : Event) (h : Held) (s : CoreState) (some : h.kept.state.r
   next_is : after_word h (step h.core h.bus) ≡ next
   next_is =
       ap (after_word h) is
-      ∙ ap (λ (pc : ℕ). record h { core = s; own = with_counts h.own (one_word (pc == address_of 6) h.core.random (counts_of h.own)) }) at
+      ∙ ap (λ (pc : ℕ). record h { core = s; own = with_counts h.own (one_word (pc == handler_address 6) h.core.random (counts_of h.own)) }) at
 
   pub next_follows : Follows Inside h next
   next_follows = subst (Follows Inside h) next_is (word_follows h some user unserved)
@@ -60,10 +63,10 @@ module _ (n : ℕ) (e : Event) (h : Held) (s : CoreState) (some : h.kept.state.r
   next_real owed = subst (IsReal h) next_is (word_real h (owed, some) unserved)
 
 -- the words after the first, from where it leads
-rest_reached : (n : ℕ) (e : Event) (es : List Event) (h : Held) (s c : CoreState) → s.random ≡ ticked 64 8 h.core.random
-    → reached (suc n) es (record h { core = s; own = with_counts h.own (one_word (address_of n == address_of 6) h.core.random (counts_of h.own)) }) c ≡ reached n (e ∷ es) h c
+rest_reached : (n : ℕ) (e : Event) (es : List Event) (h : Held) (s c : CoreState) → s.random ≡ random_after 64 8 h.core.random
+    → reached (suc n) es (record h { core = s; own = with_counts h.own (one_word (handler_address n == handler_address 6) h.core.random (counts_of h.own)) }) c ≡ reached n (e ∷ es) h c
 rest_reached n e es h s c tick =
-    ap (λ (r : ℕ). record h { core = c; own = with_counts h.own (counted (suc n) es r (one_word (address_of n == address_of 6) h.core.random (counts_of h.own))) }) tick
+    ap (λ (r : ℕ). record h { core = c; own = with_counts h.own (counted (suc n) es r (one_word (handler_address n == handler_address 6) h.core.random (counts_of h.own))) }) tick
 
 none_reached : (n : ℕ) (h : Held) (c : CoreState) → c ≡ h.core → reached n [] h c ≡ h
 none_reached n h c is = ap (λ (d : CoreState). record h { core = d }) is

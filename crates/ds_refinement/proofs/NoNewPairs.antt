@@ -6,9 +6,10 @@ use Rattle.std.proofs.lemmas.List.FromFn.{length-map-range_with_len, get_or-map-
 use Rattle.ds_tlb.specs.declared.entry.Entry.{Entry}
 use Rattle.ds_tlb.specs.Entries.{find, empty_entry, empty_entries}
 use Rattle.ds_policy.specs.declared.grant.EntryPlace.{EntryPlace}
-use Rattle.ds_asid.specs.Spaces.{Spaces, number_held}
+use Rattle.ds_asid.specs.Spaces.{Spaces}
+use Rattle.ds_asid.specs.Inner.Spaces.{number_held}
 use Rattle.ds_tables.specs.Places.{region_of}
-use Rattle.ds_grants.specs.Changes.{cleared, forgotten, both_forgotten, all_forgotten}
+use Rattle.ds_grants.specs.Inner.Changes.{cleared, forgotten, both_forgotten, all_forgotten}
 use Rattle.ds_grants.specs.Copies.{AreRewritten}
 use Rattle.ds_grants.proofs.Translations.{at_set}
 use Rattle.ds_refinement.specs.Pairs.{HasNoNewPairs}

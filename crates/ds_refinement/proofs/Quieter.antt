@@ -18,9 +18,10 @@ use Rattle.ds_pagemap.specs.Machine.{State}
 use Rattle.ds_pagemap.specs.Boundary.{has_passed}
 use Rattle.ds_refinement.specs.Held.{Held, Kept, began_or}
 use Rattle.ds_refinement.specs.Units.{user_status}
-use Rattle.ds_refinement.specs.Stands.{IsSound, OnProcessor, RunningBy}
-use Rattle.ds_refinement.specs.Quiet.{IsQuiet}
-use Rattle.ds_refinement.specs.Blocks.{at_time, IsQuietUntil}
+use Rattle.ds_refinement.specs.Stands.{OnProcessor, RunningBy}
+use Rattle.ds_refinement.specs.Inner.Stands.{IsSound}
+use Rattle.ds_refinement.specs.Inner.Quiet.{IsUndisturbed}
+use Rattle.ds_refinement.specs.Inner.Blocks.{at_time, IsQuietUntil}
 
 -- what comes later than one time comes later than the times before it
 none_before : {X : Type 0} (time : X → ℕ) (now later : ℕ) → now ≤ later → (xs : List X) → filter (λ x. nat_le (time x) later) xs ≡ [] → filter (λ x. nat_le (time x) now) xs ≡ []
@@ -79,7 +80,7 @@ expired_earlier now later table le none =
     (λ es. none_stricter (has_expired later) (has_expired now) (λ e. entry_earlier now later e le) es) table none
 
 -- so the last boundary decides
-pub quiet_until : (last : ℕ) (k : Kept) → k.ticked ≤ k.state.time → IsQuiet (at_time last k) → IsQuietUntil last k
+pub quiet_until : (last : ℕ) (k : Kept) → k.ticked ≤ k.state.time → IsUndisturbed (at_time last k) → IsQuietUntil last k
 quiet_until last k ticked q = record {
   ticked = ticked;
   quiet = λ time from upto. record {

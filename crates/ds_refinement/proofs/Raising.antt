@@ -17,10 +17,11 @@ use Rattle.ds_cp0.specs.declared.exception.ExceptionCode.TheVariants.{Interrupt,
 use Rattle.ds_cp0.specs.System.{is_pending}
 use Rattle.ds_dev.specs.declared.fault.BusError.{BusError}
 use Rattle.ds_dev.specs.Bus.{BusState, lines}
-use Rattle.ds_core.specs.Core.{CoreState, Step, is_raised, branched, exception, with_tick, trapped, at_vector}
-use Rattle.ds_core.specs.Access.{refusal, reached, aligned_load, aligned_store, kept, load_answered, loaded_from, store_answered, stored_to}
-use Rattle.ds_core.specs.Coprocessor.{is_usable, unusable_exception, unusable, usable, unit_of}
-use Rattle.ds_core.specs.Effect.{fault_code, effect, fetch_answered, fetched_from, instruction, step}
+use Rattle.ds_core.specs.Core.{CoreState, Step, branched, exception, with_tick, trapped, at_vector}
+use Rattle.ds_core.specs.Inner.Core.{is_raised}
+use Rattle.ds_core.specs.Access.{access_exception, reached, aligned_load, aligned_store, kept_word, load_answered, loaded_from, store_answered, stored_to}
+use Rattle.ds_core.specs.Coprocessor.{is_coprocessor_usable, unusable_exception, unusable, usable, unit_of}
+use Rattle.ds_core.specs.Effect.{fault_code, effect, fetch_answered, fetched_from, instruction_step, step}
 use Rattle.ds_refinement.specs.Told.{is_delayed}
 use Rattle.ds_refinement.proofs.Exceptions.{slot_told}
 
@@ -43,7 +44,7 @@ by_load c b after (Err e) = enters c b (exception c DataBus) refl
 by_load c b after (Ok w) = calm c (load_answered c b after (Ok w)) refl
 
 by_loaded : (c : CoreState) (b : BusState) (size : Size) (addr : ℕ) (after : ℕ → Registers) (r : Result Physical Fault) → Tells c (loaded_from c b size addr after r)
-by_loaded c b size addr after (Err e) = enters c b (refusal c Load addr e) refl
+by_loaded c b size addr after (Err e) = enters c b (access_exception c Load addr e) refl
 by_loaded c b size addr after (Ok place) = by_load c (aligned_load b place.0 size).1 after (aligned_load b place.0 size).0
 
 by_store : (c : CoreState) (b : BusState) (r : Result (Unit {0}) BusError) → Tells c (store_answered c b r)
@@ -51,8 +52,8 @@ by_store c b (Err e) = enters c b (exception c DataBus) refl
 by_store c b (Ok u) = calm c (store_answered c b (Ok u)) refl
 
 by_stored : (c : CoreState) (b : BusState) (size : Size) (addr : ℕ) (after : ℕ → ℕ) (r : Result Physical Fault) → Tells c (stored_to c b size addr after r)
-by_stored c b size addr after (Err e) = enters c b (refusal c Store addr e) refl
-by_stored c b size addr after (Ok place) = by_store c (aligned_store b place.0 size (after (kept b place.0))).1 (aligned_store b place.0 size (after (kept b place.0))).0
+by_stored c b size addr after (Err e) = enters c b (access_exception c Store addr e) refl
+by_stored c b size addr after (Ok place) = by_store c (aligned_store b place.0 size (after (kept_word b place.0))).1 (aligned_store b place.0 size (after (kept_word b place.0))).0
 
 by_usable : (c : CoreState) (b : BusState) (i : Instr) → Tells c (usable c b i)
 by_usable c b (instr.Mfc0 rt rd) = calm c (usable c b (instr.Mfc0 rt rd)) refl
@@ -75,17 +76,17 @@ by_effect c b i (Loads size addr after) = by_loaded c b size addr after (reached
 by_effect c b i (Stores size addr after) = by_stored c b size addr after (reached c Store size addr)
 by_effect c b i (Faults code) = enters c b (exception c (fault_code code)) refl
 by_effect c b i Calls = enters c b (exception c SystemCall) refl
-by_effect c b i Privileged = by_use c b i (is_usable c (unit_of i))
+by_effect c b i Privileged = by_use c b i (is_coprocessor_usable c (unit_of i))
 
 by_answer : (c : CoreState) (b : BusState) (r : Result ℕ BusError) → Tells c (fetch_answered c b r)
 by_answer c b (Err e) = enters c b (exception c FetchBus) refl
 by_answer c b (Ok w) = by_effect c b (instruction_of w) (meaning (instruction_of w) c.pc c.registers)
 
 by_fetch : (c : CoreState) (b : BusState) (r : Result Physical Fault) → Tells c (fetched_from c b r)
-by_fetch c b (Err e) = enters c b (refusal c Fetch c.pc e) refl
+by_fetch c b (Err e) = enters c b (access_exception c Fetch c.pc e) refl
 by_fetch c b (Ok place) = by_answer c (aligned_load b place.0 Word).1 (aligned_load b place.0 Word).0
 
-by_interrupt : (c : CoreState) (b : BusState) (asked : Bool) → Tells c (cond asked (trapped c b Interrupt) (with_tick (instruction c b)))
+by_interrupt : (c : CoreState) (b : BusState) (asked : Bool) → Tells c (cond asked (trapped c b Interrupt) (with_tick (instruction_step c b)))
 by_interrupt c b true = enters c b (exception c Interrupt) refl
 by_interrupt c b false = by_fetch c b (reached c Fetch Word c.pc)
 

@@ -13,9 +13,12 @@ use Rattle.ds_pagemap.proofs.Runs.{reaches_start, reaches_half, reaches_touch}
 use Rattle.ds_refinement.specs.declared.step.Step.{Step}
 use Rattle.ds_refinement.specs.declared.step.Step.TheVariants.{Inside, Unit, Boundary, Over}
 use Rattle.ds_refinement.specs.Held.{Held, Kept, bare, vacated}
-use Rattle.ds_refinement.specs.Stands.{Stands, RunningBy, IsSound}
-use Rattle.ds_refinement.specs.Steps.{StepTo, HalfTo, Follows, Stays}
-use Rattle.ds_refinement.specs.Runs.{RunsTo, RunsWithin, held_goes_on}
+use Rattle.ds_refinement.specs.Stands.{Stands, RunningBy}
+use Rattle.ds_refinement.specs.Inner.Stands.{IsSound}
+use Rattle.ds_refinement.specs.Steps.{StepTo, HalfTo, Follows}
+use Rattle.ds_refinement.specs.Inner.Steps.{Stays}
+use Rattle.ds_refinement.specs.Runs.{RunsTo, held_goes_on}
+use Rattle.ds_refinement.specs.Inner.Runs.{RunsWithin}
 use Rattle.ds_refinement.proofs.Boundaries.{beside, over_too, ended_there}
 
 -- Whether a run goes on.

@@ -16,13 +16,15 @@ use Rattle.ds_pagemap.specs.Machine.{State, Process, no_process, process_of, wit
 use Rattle.ds_pagemap.proofs.Processes.{process_of-with_process}
 use Rattle.ds_pagemap_laws.specs.Settled.{settled_process, all_settled}
 use Rattle.ds_pagemap_laws.proofs.Processes.{of_settled}
-use Rattle.ds_refinement.specs.Held.{Held, Kept, bare, whole}
+use Rattle.ds_refinement.specs.Held.{Held, Kept, bare}
+use Rattle.ds_refinement.specs.Inner.Held.{whole}
 use Rattle.ds_refinement.specs.Units.{AtStart, user_status}
 use Rattle.ds_refinement.specs.Handling.{HasBase}
-use Rattle.ds_refinement.specs.Stands.{Agrees, IsUnbegun, Stands, KeptIs, IsKept, RunningIs, RunningBy, OnProcessor, AreResting}
+use Rattle.ds_refinement.specs.Stands.{Agrees, IsUnbegun, Stands, KeptIs, RunningIs, RunningBy, OnProcessor, AreResting}
+use Rattle.ds_refinement.specs.Inner.Stands.{IsKept}
 use Rattle.ds_refinement.specs.Counts.{counts_of, HasNone, HasRanges}
 use Rattle.ds_refinement.proofs.Tallied.{UnbegunBy, none_counted}
-use Rattle.ds_refinement.specs.Services.{Enters, EntersBy, seated, seated_process, with_first_seated, resume_address}
+use Rattle.ds_refinement.specs.Inner.Services.{Enters, EntersBy, seated, seated_process, with_first_seated, resume_address}
 
 -- The running process leaves.
 

@@ -5,65 +5,65 @@ use Rattle.std.proofs.lemmas.Bool.Decides.{nat_tests}
 use Rattle.std.proofs.lemmas.Option.{slice_get-get_or, slice_get_within, get_or_from_slice_get}
 use Rattle.std.proofs.lemmas.List.{get_or-set_same}
 use Rattle.ds_tlb.specs.declared.entry.Entry.{Entry}
-use Rattle.ds_tlb.specs.Entries.{ticked, matches, find}
+use Rattle.ds_tlb.specs.Entries.{random_after, matches, find}
 use Rattle.ds_tlb.proofs.Matches.{missed_match}
 use Rattle.ds_refinement.specs.KeptEntries.{IsKept}
-use Rattle.ds_refinement.proofs.Keeping.{begins, behind_first, found, goes_on, other_stays, page_matches, steps}
-use Rattle.ds_refinement.specs.CourseSteps.{turned, later}
+use Rattle.ds_refinement.proofs.Keeping.{begins, past_first, found, goes_on, other_stays, page_matches, steps}
+use Rattle.ds_refinement.specs.CourseSteps.{next_wired, later}
 use Rattle.ds_grants.specs.Copies.{HasKeys}
 use Rattle.ds_refinement.specs.Tally.{turns, IsTableKept, Stood, AllStood, IsSince}
 
 -- Random.
 
-pub ticked_low : (random : ℕ) → 8 ≤ random → random < 64 → 8 ≤ ticked 64 8 random
+pub ticked_low : (random : ℕ) → 8 ≤ random → random < 64 → 8 ≤ random_after 64 8 random
 ticked_low random a b = grind (arith, nat_tests)
 
-pub ticked_high : (random : ℕ) → 8 ≤ random → random < 64 → ticked 64 8 random < 64
+pub ticked_high : (random : ℕ) → 8 ≤ random → random < 64 → random_after 64 8 random < 64
 ticked_high random a b = grind (arith, nat_tests)
 
-stood_ticks : (slot random spent : ℕ) → 8 ≤ random → random < 64 → spent ≤ 60 → Stood slot random (spent - 7) → Stood slot (ticked 64 8 random) (spent + 1 - 7)
+stood_ticks : (slot random spent : ℕ) → 8 ≤ random → random < 64 → spent ≤ 60 → Stood slot random (spent - 7) → Stood slot (random_after 64 8 random) (spent + 1 - 7)
 stood_ticks slot random spent a b few s =
     let since = s.since in
     let most = s.few in
     let e = goes_on slot random (spent - 7) a b s.low s.high (omega arith) most in
     record { low = s.low; high = s.high; since = omega arith; few = omega arith }
 
-pub all_stood_tick : (slots : List ℕ) (random spent : ℕ) → 8 ≤ random → random < 64 → spent ≤ 60 → AllStood slots random (spent - 7) → AllStood slots (ticked 64 8 random) (spent + 1 - 7)
+pub all_stood_tick : (slots : List ℕ) (random spent : ℕ) → 8 ≤ random → random < 64 → spent ≤ 60 → AllStood slots random (spent - 7) → AllStood slots (random_after 64 8 random) (spent + 1 - 7)
 all_stood_tick [] random spent a b few all = tt
 all_stood_tick (slot ∷ more) random spent a b few all = (stood_ticks slot random spent a b few all.0, all_stood_tick more random spent a b few all.1)
 
-pub stood_first : (random spent : ℕ) → 8 ≤ random → random < 64 → 7 ≤ spent → Stood random (ticked 64 8 random) (spent + 1 - 7)
-stood_first random spent a b begun = let e = behind_first random a b in record { low = a; high = b; since = omega arith; few = omega arith }
+pub stood_first : (random spent : ℕ) → 8 ≤ random → random < 64 → 7 ≤ spent → Stood random (random_after 64 8 random) (spent + 1 - 7)
+stood_first random spent a b begun = let e = past_first random a b in record { low = a; high = b; since = omega arith; few = omega arith }
 
 weaker : (entries : List Entry) (random n k vpn asid : ℕ) → n ≤ k → IsKept entries random n vpn asid → IsKept entries random k vpn asid
 weaker entries random n k vpn asid less kept =
     let few = kept.few in
     record { slot = kept.slot; entry = kept.entry; at = kept.at; page = kept.page; space = kept.space; low = kept.low; high = kept.high; since = kept.since; few = omega arith }
 
-pub kept_ticks : (entries : List Entry) (random spent vpn asid : ℕ) → 8 ≤ random → random < 64 → spent ≤ 60 → IsKept entries random (spent - 7) vpn asid → IsKept entries (ticked 64 8 random) (spent + 1 - 7) vpn asid
+pub kept_ticks : (entries : List Entry) (random spent vpn asid : ℕ) → 8 ≤ random → random < 64 → spent ≤ 60 → IsKept entries random (spent - 7) vpn asid → IsKept entries (random_after 64 8 random) (spent + 1 - 7) vpn asid
 kept_ticks entries random spent vpn asid a b few kept =
     let since = kept.since in
     let most = kept.few in
-    weaker entries (ticked 64 8 random) (spent - 7 + 1) (spent + 1 - 7) vpn asid (omega arith) (steps entries random (spent - 7) vpn asid a b (omega arith) kept)
+    weaker entries (random_after 64 8 random) (spent - 7 + 1) (spent + 1 - 7) vpn asid (omega arith) (steps entries random (spent - 7) vpn asid a b (omega arith) kept)
 
-pub kept_first : (entries : List Entry) (e : Entry) (random spent : ℕ) → length entries ≡ 64 → 8 ≤ random → random < 64 → 7 ≤ spent → IsKept (slice_set entries random e) (ticked 64 8 random) (spent + 1 - 7) e.vpn e.asid
-kept_first entries e random spent size a b begun = weaker (slice_set entries random e) (ticked 64 8 random) 1 (spent + 1 - 7) e.vpn e.asid (omega arith) (begins entries e random size a b)
+pub kept_first : (entries : List Entry) (e : Entry) (random spent : ℕ) → length entries ≡ 64 → 8 ≤ random → random < 64 → 7 ≤ spent → IsKept (slice_set entries random e) (random_after 64 8 random) (spent + 1 - 7) e.vpn e.asid
+kept_first entries e random spent size a b begun = weaker (slice_set entries random e) (random_after 64 8 random) 1 (spent + 1 - 7) e.vpn e.asid (omega arith) (begins entries e random size a b)
 
 -- The turn of the first eight slots.
 
-pub turn_small : (wired : ℕ) → wired < 8 → turned wired < 8
+pub turn_small : (wired : ℕ) → wired < 8 → next_wired wired < 8
 turn_small wired a = grind (arith, nat_tests)
 
-pub turn_on : (slot wired n : ℕ) → slot < 8 → wired < 8 → n < 8 → turns slot wired ≤ n → turns slot (turned wired) ≤ n + 1
+pub turn_on : (slot wired n : ℕ) → slot < 8 → wired < 8 → n < 8 → turns slot wired ≤ n → turns slot (next_wired wired) ≤ n + 1
 turn_on slot wired n a b c d = grind (arith, nat_tests)
 
-pub turn_first : (wired n : ℕ) → wired < 8 → turns wired (turned wired) ≤ n + 1
+pub turn_first : (wired n : ℕ) → wired < 8 → turns wired (next_wired wired) ≤ n + 1
 turn_first wired n a = grind (arith, nat_tests)
 
 pub turn_apart : (slot wired n : ℕ) → n < 8 → turns slot wired ≤ n → slot ≢ wired
 turn_apart slot wired n a b = λ (e : ◌≡◌ {A = ℕ} slot wired). grind (arith, nat_tests)
 
-pub table_first : (entries : List Entry) (e : Entry) (wired n : ℕ) → length entries ≡ 64 → wired < 8 → IsTableKept (slice_set entries wired e) (turned wired) (n + 1) e.vpn e.asid
+pub table_first : (entries : List Entry) (e : Entry) (wired n : ℕ) → length entries ≡ 64 → wired < 8 → IsTableKept (slice_set entries wired e) (next_wired wired) (n + 1) e.vpn e.asid
 table_first entries e wired n size low =
     let same = length-set entries wired e in
     record {
@@ -76,7 +76,7 @@ table_first entries e wired n size low =
       few = turn_first wired n low;
     }
 
-pub table_turns : (entries : List Entry) (e : Entry) (wired n vpn asid : ℕ) → wired < 8 → n < 8 → IsTableKept entries wired n vpn asid → IsTableKept (slice_set entries wired e) (turned wired) (n + 1) vpn asid
+pub table_turns : (entries : List Entry) (e : Entry) (wired n vpn asid : ℕ) → wired < 8 → n < 8 → IsTableKept entries wired n vpn asid → IsTableKept (slice_set entries wired e) (next_wired wired) (n + 1) vpn asid
 table_turns entries e wired n vpn asid low less k = record {
   slot = k.slot;
   entry = k.entry;

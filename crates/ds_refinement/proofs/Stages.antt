@@ -10,17 +10,20 @@ use Rattle.ds_log.specs.declared.line.Line.TheVariants.{Denial}
 use Rattle.ds_procs.specs.Calls.{call_of}
 use Rattle.ds_tlb.specs.declared.entry.Entry.{Entry}
 use Rattle.ds_grants.specs.State.{page_state}
-use Rattle.ds_grants.specs.Represented.{IsRepresented, IsHigh}
+use Rattle.ds_grants.specs.Represented.{IsRepresented}
+use Rattle.ds_grants.specs.Inner.Represented.{IsHigh}
 use Rattle.ds_grants.proofs.Kept.{high_kept}
 use Rattle.ds_cp0.specs.declared.exception.Exception.{Exception}
 use Rattle.ds_cp0.specs.System.{System, asid_of, entered, is_user, vector, epc_of}
 use Rattle.ds_dev.specs.Bus.{BusState}
 use Rattle.ds_core.specs.declared.event.Event.TheVariants as event
 use Rattle.ds_core.specs.Core as core
-use Rattle.ds_core.specs.Core.{CoreState, is_raised, core_at_next, core_at_vector, branched_core, with_tick, trapped}
+use Rattle.ds_core.specs.Core.{CoreState, core_at_next, core_at_vector, branched_core, with_tick, trapped}
+use Rattle.ds_core.specs.Inner.Core.{is_raised}
 use Rattle.ds_core.specs.Effect as whole
-use Rattle.ds_refinement.specs.Real.{IsNoBusError}
-use Rattle.ds_refinement.specs.Handling.{HasBase, IsSet, IsMiss, IsWhole, AreUnits}
+use Rattle.ds_refinement.specs.Inner.Real.{IsNoBusError}
+use Rattle.ds_refinement.specs.Handling.{HasBase, IsSet, IsWhole, AreUnits}
+use Rattle.ds_refinement.specs.Inner.Handling.{IsMiss}
 use Rattle.ds_cp0.specs.declared.exception.ExceptionCode.{ExceptionCode}
 use Rattle.ds_cp0.specs.declared.exception.ExceptionCode.TheVariants.{Interrupt}
 use Rattle.ds_pagemap.specs.declared.turn.Turn.{Turn}
@@ -37,13 +40,15 @@ use Rattle.ds_refinement.specs.Told.{told}
 use Rattle.ds_refinement.specs.Held.{Held, Kept, space_of, bare, began_or, last_boundary}
 use Rattle.ds_refinement.specs.Copying.{AwaitsCopy}
 use Rattle.ds_refinement.specs.Units.{user_status, owes_boundary, EndsUnit, Promise, AtStart, InSlot}
-use Rattle.ds_refinement.specs.Stands.{OnProcessor, RunningIs, RunningBy, KeptIs, AreResting, Agrees, CountedBy, IsUnbegun, Stands, IsSound}
-use Rattle.ds_refinement.specs.Leaves.{Leaves}
+use Rattle.ds_refinement.specs.Stands.{OnProcessor, RunningIs, RunningBy, KeptIs, AreResting, Agrees, CountedBy, IsUnbegun, Stands}
+use Rattle.ds_refinement.specs.Inner.Stands.{IsSound}
+use Rattle.ds_refinement.specs.Inner.Leaves.{Leaves}
 use Rattle.ds_core.specs.declared.event.Event.{Event}
 use Rattle.ds_refinement.specs.Tally.{IsTallied}
-use Rattle.ds_refinement.specs.Needs.{pages_of}
-use Rattle.ds_refinement.specs.Counts.{Counts, CountedAfter, HasRanges, counts_of, course_of, fresh, may_write, one_more}
-use Rattle.ds_refinement.specs.Services.{after_event, step_of, with_turn, with_one_spent}
+use Rattle.ds_refinement.specs.Needs.{pages_of_unit}
+use Rattle.ds_refinement.specs.Counts.{Counts, HasRanges, counts_of, course_of, fresh_counts, may_write, one_more}
+use Rattle.ds_refinement.specs.Inner.Counts.{CountedAfter}
+use Rattle.ds_refinement.specs.Inner.Services.{after_event, step_of, with_turn, with_one_spent}
 use Rattle.ds_refinement.specs.Steps.{Comes, Follows, ticks_of}
 use Rattle.ds_refinement.proofs.Exceptions.{slot_told}
 use Rattle.ds_refinement.proofs.Registers.{HasSeat, seat_kept, process_put, registers_put, registers_again, registers_same}
@@ -70,14 +75,14 @@ unfolding unit
 unit_by m p rest ready = ap (λ (rs : List ℕ). record (unit_of_first m rs) { owed = Some (record { began = m.time; runner = first rs }) }) ready
 
 -- the state after a unit, with the process in its new place
-abbrev behind : State → ℕ → Process → PageState → ℕ → State
-behind m p q pages ticks = record (with_process m p q) { memory = pages; time = m.time + ticks; owed = Some (record { began = m.time; runner = Some p }) }
+abbrev afterwards : State → ℕ → Process → PageState → ℕ → State
+afterwards m p q pages ticks = record (with_process m p q) { memory = pages; time = m.time + ticks; owed = Some (record { began = m.time; runner = Some p }) }
 
 -- two changes of one process are the second
 twice : (m : State) (p : ℕ) (r : Registers) (pages : PageState) (ticks pc : ℕ) → HasSeat m p
-    → owes_boundary m.time p (ticked ticks (at_pc (record (with_registers m p r) { memory = pages }) p pc)) ≡ behind m p (record (process_of m p) { registers = r; pc = pc }) pages ticks
+    → owes_boundary m.time p (ticked ticks (at_pc (record (with_registers m p r) { memory = pages }) p pc)) ≡ afterwards m p (record (process_of m p) { registers = r; pc = pc }) pages ticks
 twice m p r pages ticks pc seat =
-    ap (λ (q : Process). behind (with_process m p (record (process_of m p) { registers = r })) p (record q { pc = pc }) pages ticks) (process_put m p (record (process_of m p) { registers = r }) seat)
+    ap (λ (q : Process). afterwards (with_process m p (record (process_of m p) { registers = r })) p (record q { pc = pc }) pages ticks) (process_put m p (record (process_of m p) { registers = r }) seat)
     ∙ ap (λ (s : State). record s { memory = pages; time = m.time + ticks; owed = Some (record { began = m.time; runner = Some p }) })
     (with_process_again m p (record (process_of m p) { registers = r }) (record (process_of m p) { registers = r; pc = pc }))
 
@@ -188,7 +193,7 @@ module _ (h : Held) (m : State) (p : ℕ) (rest : List ℕ) (all : Stands h m) (
 
   -- what is counted after a step
   abbrev Counted : Event → CoreState → Type 0
-  Counted e c = CountedAfter e c n dirty (pages_of m p)
+  Counted e c = CountedAfter e c n dirty (pages_of_unit m p)
 
   -- what is kept, by who is ready
   kept : KeptIs (p ∷ rest) h.kept h.bus.memory m
@@ -218,8 +223,8 @@ module _ (h : Held) (m : State) (p : ℕ) (rest : List ℕ) (all : Stands h m) (
   -- The instruction is done, and with it the unit.
 
   -- what is kept after the unit
-  kept_behind : (q : Process) (memory : List ℕ) (ticks : ℕ) → KeptIs (p ∷ rest) (record h.kept { state = with_turn ticks h.kept.state }) memory (behind m p q (page_state h.kept.grants memory) ticks)
-  kept_behind q memory ticks = record {
+  kept_past : (q : Process) (memory : List ℕ) (ticks : ℕ) → KeptIs (p ∷ rest) (record h.kept { state = with_turn ticks h.kept.state }) memory (afterwards m p q (page_state h.kept.grants memory) ticks)
+  kept_past q memory ticks = record {
     ready = kept.ready;
     state =
         ap (λ (qs : List Process). bare (record m { processes = qs; time = m.time + ticks; owed = Some (record { began = m.time; runner = Some p }) })) (set-set m.processes (p - 1) q no_process)
@@ -231,11 +236,11 @@ module _ (h : Held) (m : State) (p : ℕ) (rest : List ℕ) (all : Stands h m) (
   }
 
   -- and the process itself
-  running_behind : (r : Registers) (pages : PageState) (ticks pc : ℕ) → h.core.next ≡ pc
-      → RunningIs p (core_at_next (counted h.core) r) (record h.kept { state = with_turn ticks h.kept.state }) (behind m p (record (process_of m p) { registers = r; pc = pc }) pages ticks)
-  running_behind r pages ticks pc next =
+  running_after : (r : Registers) (pages : PageState) (ticks pc : ℕ) → h.core.next ≡ pc
+      → RunningIs p (core_at_next (counted h.core) r) (record h.kept { state = with_turn ticks h.kept.state }) (afterwards m p (record (process_of m p) { registers = r; pc = pc }) pages ticks)
+  running_after r pages ticks pc next =
       let q : Process = record (process_of m p) { registers = r; pc = pc } in
-      let s = behind m p q pages ticks in
+      let s = afterwards m p q pages ticks in
       let c = core_at_next (counted h.core) r in
       let is : process_of s p ≡ q = process_put m p q running.seat in
       let a : AtStart c p s = record {
@@ -256,8 +261,8 @@ module _ (h : Held) (m : State) (p : ℕ) (rest : List ℕ) (all : Stands h m) (
       }
 
   -- the devices are as they were, and the boundary that is owed began now
-  devices_behind : (memory : List ℕ) (ticks : ℕ) → AreResting (record h.bus { memory = memory }) (record h.kept { state = with_turn ticks h.kept.state })
-  devices_behind memory ticks =
+  devices_after : (memory : List ℕ) (ticks : ℕ) → AreResting (record h.bus { memory = memory }) (record h.kept { state = with_turn ticks h.kept.state })
+  devices_after memory ticks =
       let now : last_boundary h.kept.state ≡ h.kept.state.time = ap (λ (o : Option Turn). began_or o h.kept.state.time) owed in
       record {
         serial = k.devices.serial;
@@ -270,12 +275,12 @@ module _ (h : Held) (m : State) (p : ℕ) (rest : List ℕ) (all : Stands h m) (
   -- a unit of so many ticks ends, and the program goes on at pc
   retires : (r : Registers) (memory : List ℕ) (ticks pc : ℕ) → length memory ≡ 2 ^ 23 → IsHigh h.bus.memory memory
       → unit m ≡ owes_boundary m.time p (ticked ticks (at_pc (record (with_registers m p r) { memory = page_state h.kept.grants memory }) p pc))
-      → h.core.next ≡ pc → ticks_of h.core.slot ≡ ticks → HasRanges (core_at_next (counted h.core) r) (fresh h.own.wired)
+      → h.core.next ≡ pc → ticks_of h.core.slot ≡ ticks → HasRanges (core_at_next (counted h.core) r) (fresh_counts h.own.wired)
       → Comes Unit (after_event event.Retired h (record { event = event.Retired; core = core_at_next (counted h.core) r; bus = record h.bus { memory = memory } })) m
   retires r memory ticks pc size high is next long ranges =
       let new = after_event event.Retired h (record { event = event.Retired; core = core_at_next (counted h.core) r; bus = record h.bus { memory = memory } }) in
       let q : Process = record (process_of m p) { registers = r; pc = pc } in
-      let s = behind m p q (page_state h.kept.grants memory) ticks in
+      let s = afterwards m p q (page_state h.kept.grants memory) ticks in
       let there : unit m ≡ s = is ∙ twice m p r (page_state h.kept.grants memory) ticks pc running.seat in
       let stands : Agrees new s = record {
         represented = high_kept h.core.entries h.bus.memory memory h.kept.tables h.kept.spaces h.kept.grants high k.represented;
@@ -284,14 +289,14 @@ module _ (h : Held) (m : State) (p : ℕ) (rest : List ℕ) (all : Stands h m) (
         grants = k.grants;
         size = size;
         kept = subst (λ (rs : List ℕ). KeptIs rs new.kept memory s) (sym ready)
-            (subst (λ (n : ℕ). KeptIs (p ∷ rest) (record h.kept { state = with_turn n h.kept.state }) memory s) (sym long) (kept_behind q memory ticks));
+            (subst (λ (n : ℕ). KeptIs (p ∷ rest) (record h.kept { state = with_turn n h.kept.state }) memory s) (sym long) (kept_past q memory ticks));
         running = subst (λ (rs : List ℕ). RunningBy rs new.core new.kept s) (sym ready)
-            (subst (λ (n : ℕ). RunningIs p new.core (record h.kept { state = with_turn n h.kept.state }) s) (sym long) (running_behind r (page_state h.kept.grants memory) ticks pc next));
-        devices = devices_behind memory (ticks_of h.core.slot);
+            (subst (λ (n : ℕ). RunningIs p new.core (record h.kept { state = with_turn n h.kept.state }) s) (sym long) (running_after r (page_state h.kept.grants memory) ticks pc next));
+        devices = devices_after memory (ticks_of h.core.slot);
       } in
       let unbegun : IsUnbegun new.core p s = record { mode = user; first = refl; registers = sym (ap (λ (x : Process). x.registers) (process_put m p q running.seat)) } in
       let tallied : CountedBy h.kept.state.ready new.core new.own new.kept s =
-      subst (λ (rs : List ℕ). CountedBy rs new.core new.own new.kept s) (sym ready) (begins new.core h.own.wired (may_write new.kept p) (pages_of s p) user refl ranges, λ spent. unbegun) in
+      subst (λ (rs : List ℕ). CountedBy rs new.core new.own new.kept s) (sym ready) (begins new.core h.own.wired (may_write new.kept p) (pages_of_unit s p) user refl ranges, λ spent. unbegun) in
       (unit m, (owes_none, some_ready, (false, false, half_unit m owes_none)), subst (Stands new) (sym there) (record { agrees = stands; counted = tallied }))
 
   -- Inside the unit.
@@ -319,7 +324,7 @@ module _ (h : Held) (m : State) (p : ℕ) (rest : List ℕ) (all : Stands h m) (
   }
 
   -- and its unit is tallied
-  goes_on : (c : CoreState) → Agrees (record h { core = c }) m → IsTallied (course_of c (one_more n) dirty (pages_of m p)) → Stands (record h { core = c; own = with_one_spent h.own }) m
+  goes_on : (c : CoreState) → Agrees (record h { core = c }) m → IsTallied (course_of c (one_more n) dirty (pages_of_unit m p)) → Stands (record h { core = c; own = with_one_spent h.own }) m
   goes_on c there tallied = record {
     agrees = own_unseen (record h { core = c }) (with_one_spent h.own) m there;
     counted = subst (λ (rs : List ℕ). CountedBy rs c (with_one_spent h.own) h.kept m) (sym ready) (tallied, λ (none : h.own.spent + 1 ≡ 0). absurd (omega (arith, none)));
@@ -328,7 +333,7 @@ module _ (h : Held) (m : State) (p : ℕ) (rest : List ℕ) (all : Stands h m) (
   -- a branch goes on to its slot
   turns : (r : Registers) (target : ℕ) → h.core.next ≡ word ((process_of m p).pc + 4) → (process_of m p).pc < 2 ^ 32
       → instruction m p (process_of m p).pc ≡ Branched (with_registers m p r) target
-      → IsTallied (course_of (branched_core (counted h.core) r target) (one_more n) dirty (pages_of m p))
+      → IsTallied (course_of (branched_core (counted h.core) r target) (one_more n) dirty (pages_of_unit m p))
       → Comes Inside (after_event event.Branched h (record { event = event.Branched; core = branched_core (counted h.core) r target; bus = h.bus })) m
   turns r target next within is tallied =
       let c = branched_core (counted h.core) r target in
@@ -344,7 +349,7 @@ module _ (h : Held) (m : State) (p : ℕ) (rest : List ℕ) (all : Stands h m) (
       → Promise (told (entered h.core.system e) m.memory p) (entered h.core.system e).bad_vaddr h.core.slot (process_of m p).pc p m (with_registers m p (settled h.core.registers))
       → (vector e ≡ 0x80000080 → EndsUnit m.memory p (entered h.core.system e).bad_vaddr (told (entered h.core.system e) m.memory p) ⊎ AwaitsCopy (entered h.core.system e) h.kept.grants p)
       → (vector e ≡ 0x80000000 → IsMiss h.core e) → IsWhole (core_at_vector (counted h.core) e)
-      → IsTallied (course_of (core_at_vector (counted h.core) e) (one_more n) dirty (pages_of m p))
+      → IsTallied (course_of (core_at_vector (counted h.core) e) (one_more n) dirty (pages_of_unit m p))
       → Comes Inside (after_event (event.Raised e.code) h (record { event = event.Raised e.code; core = core_at_vector (counted h.core) e; bus = h.bus })) m
   raises e slot at units promise ends missed whole tallied =
       let t : System = entered h.core.system e in
@@ -364,8 +369,8 @@ module _ (h : Held) (m : State) (p : ℕ) (rest : List ℕ) (all : Stands h m) (
   -- both do the same instruction
   pub both_meet : h.core.pc < 2 ^ 32 → (s : core.Step) → s ≡ whole.step h.core h.bus → Meets h.core h.bus h.kept.grants here p (instruction here p h.core.pc) s
   both_meet small s is =
-      let quiet : whole.step h.core h.bus ≡ with_tick (whole.instruction h.core h.bus) =
-      ap (λ (b : Bool). cond b (trapped h.core h.bus Interrupt) (with_tick (whole.instruction h.core h.bus))) (rests h.bus h.kept h.core.system k.devices mode) in
+      let quiet : whole.step h.core h.bus ≡ with_tick (whole.instruction_step h.core h.bus) =
+      ap (λ (b : Bool). cond b (trapped h.core h.bus Interrupt) (with_tick (whole.instruction_step h.core h.bus))) (rests h.bus h.kept h.core.system k.devices mode) in
       subst (Meets h.core h.bus h.kept.grants here p (instruction here p h.core.pc)) (sym (is ∙ quiet))
       (instruction_meets h.core h.bus h.kept here p (sym (registers_put m p h.core.registers running.seat)) kept.pages k.size mode small k.represented.buffer k.grants running.seat.0 running.number (space_set h.core.system.entry_hi (space_of h.kept p) running.set.space (few h m p rest k ready)))
 
@@ -477,7 +482,7 @@ module _ (h : Held) (m : State) (p : ℕ) (rest : List ℕ) (all : Stands h m) (
   counts s is =
       let space : asid_of h.core.system ≡ space_of h.kept p = space_set h.core.system.entry_hi (space_of h.kept p) running.set.space (few h m p rest k ready) in
       instruction_counted h m p rest s n dirty k ready user is
-      (tells_clean h.core.entries h.kept p (pages_of m p).access (asid_of h.core.system) k.represented.buffer running.seat.0 running.number space)
+      (tells_clean h.core.entries h.kept p (pages_of_unit m p).access (asid_of h.core.system) k.represented.buffer running.seat.0 running.number space)
       (tallied_of h m p rest all ready)
 
   -- one step of the processor

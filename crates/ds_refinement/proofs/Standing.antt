@@ -4,7 +4,7 @@ use Rattle.std.specs.Prelude.{not, ◌&&◌}
 use Rattle.ds_word.specs.Word.{word, bits}
 use Rattle.ds_isa.specs.Registers.{Registers}
 use Rattle.ds_cp0.specs.System.{is_user, pushed}
-use Rattle.ds_refill.specs.Handler.{address_of}
+use Rattle.ds_refill.specs.Handler.{handler_address}
 use Rattle.ds_refill.specs.Refill.{lent}
 use Rattle.ds_grants.specs.Buffer.{BufferHolds}
 use Rattle.ds_core.specs.Core.{CoreState}
@@ -12,7 +12,7 @@ use Rattle.ds_pagemap.specs.Machine.{State, Process, process_of, with_process, n
 use Rattle.ds_pagemap.proofs.Processes.{with_process_again, with_process-process_of}
 use Rattle.ds_refinement.specs.Held.{Held, Kept, Own, bare, space_of}
 use Rattle.ds_refinement.specs.Units.{user_status, is_general, is_served, has_left_user, IsLinked, AtStart, InService}
-use Rattle.ds_refinement.specs.Services.{touched_registers}
+use Rattle.ds_refinement.specs.Inner.Services.{touched_registers}
 use Rattle.ds_refinement.proofs.Registers.{HasSeat, seat_kept, process_put}
 use Rattle.ds_refinement.proofs.Links.{touched_link}
 use Rattle.ds_refinement.proofs.Spaces.{small_number}
@@ -23,7 +23,7 @@ use Rattle.ds_refinement.specs.Stands.{InKernel, OnProcessor, RunningIs, Running
 -- Where the processor stands, by what it shows.
 
 -- no word stands at the general vector
-not_general : (phase : Phase) → (address_of (index_of phase) == 0x80000080) ≡ false
+not_general : (phase : Phase) → (handler_address (index_of phase) == 0x80000080) ≡ false
 not_general AtContext = refl
 not_general AtAddress = refl
 not_general AtLoad = refl

@@ -21,15 +21,16 @@ use Rattle.ds_refinement.specs.declared.step.Step.{Step}
 use Rattle.ds_refinement.specs.declared.step.Step.TheVariants.{Inside, Boundary, Over}
 use Rattle.ds_refinement.specs.Held.{Held, Kept}
 use Rattle.ds_refinement.specs.Stands.{AreResting, CountedBy, IsUnbegun, Stands}
-use Rattle.ds_refinement.specs.Steps.{StepTo, Comes, Follows, Stays, Moves}
-use Rattle.ds_refinement.specs.Services.{EntersBy, with_table_page}
+use Rattle.ds_refinement.specs.Steps.{StepTo, Comes, Follows, Moves}
+use Rattle.ds_refinement.specs.Inner.Steps.{Stays}
+use Rattle.ds_refinement.specs.Inner.Services.{EntersBy, with_table_page}
 use Rattle.ds_refinement.specs.Pairs.{HasNoNewPairs}
 use Rattle.ds_refinement.specs.Units.{EndsUnit}
-use Rattle.ds_refinement.specs.Real.{HasUnit, MayGoBack, GoesBack, EndsReally, IsReal, Through}
-use Rattle.ds_refinement.specs.Granted.{IsGranted}
-use Rattle.ds_refinement.specs.Quiet.{IsQuiet}
-use Rattle.ds_asid.specs.Spaces.{taken}
-use Rattle.ds_refinement.specs.StationRows.{two, kept, page, other, core_at, user, served, done, table_page, doubled}
+use Rattle.ds_refinement.specs.Real.{HasUnit, MayGoBack, GoesBack, EndsUnitReally, IsReal, Through}
+use Rattle.ds_refinement.specs.Inner.Granted.{IsGranted}
+use Rattle.ds_refinement.specs.Inner.Quiet.{IsUndisturbed}
+use Rattle.ds_asid.specs.Spaces.{space_taken}
+use Rattle.ds_refinement.specs.Rows.StationRows.{two, kept, page, other, core_at, user, served, done, table_page, doubled}
 
 -- a station that has begun so many instructions of a unit; it has no memory
 abbrev after : ℕ → Held
@@ -39,7 +40,7 @@ after spent = record { core = user; bus = bus.at_start []; kept = kept; own = re
 
 -- process 2 has address space 2, and is first
 abbrev second : Kept
-second = record kept { state = record two { ready = 2 ∷ 1 ∷ [] }; spaces = taken kept.spaces 2 }
+second = record kept { state = record two { ready = 2 ∷ 1 ∷ [] }; spaces = space_taken kept.spaces 2 }
 
 -- the processor at its first instruction in that address space, with these registers
 abbrev begins : Registers → CoreState
@@ -115,12 +116,12 @@ a_branch_that_wrote_its_link_counts counted = a_branch_that_wrote_its_link_has_b
 abbrev over : State
 over = let ended = record resting { standing = Ended } in state_of (ended ∷ ended ∷ []) [] []
 
-pub nothing_comes_behind_the_end : StepTo Over over over
-nothing_comes_behind_the_end = (refl, refl, refl)
+pub nothing_comes_after_the_end : StepTo Over over over
+nothing_comes_after_the_end = (refl, refl, refl)
 
-pub no_tick_passes_behind_the_end : (t : State) → StepTo Boundary over t → ⊥
-no_tick_passes_behind_the_end t (inl turn) = turn.0 refl
-no_tick_passes_behind_the_end t (inr turn) = let goes_on : true ≡ false = turn.2 in absurd cc
+pub no_tick_passes_after_the_end : (t : State) → StepTo Boundary over t → ⊥
+no_tick_passes_after_the_end t (inl turn) = turn.0 refl
+no_tick_passes_after_the_end t (inr turn) = let goes_on : true ≡ false = turn.2 in absurd cc
 
 -- For what it stands.
 
@@ -139,13 +140,13 @@ each_step_of_a_path_is_followed old new path = (path.0.0, path.0.1)
 -- Periods of 32 ticks.
 
 -- what is kept at 33, of a clock that was brought to 31
-abbrev behind_31 : Kept
-behind_31 = record kept { state = record two { rate = 3; time = 33 }; ticked = 31 }
+abbrev after_31 : Kept
+after_31 = record kept { state = record two { rate = 3; time = 33 }; ticked = 31 }
 
-pub a_period_that_ended_is_to_be_seen : (b : bus.BusState) → AreResting b behind_31 → ⊥
+pub a_period_that_ended_is_to_be_seen : (b : bus.BusState) → AreResting b after_31 → ⊥
 a_period_that_ended_is_to_be_seen b rests = let ended : true ≡ false = rests.period in absurd cc
 
-pub a_boundary_at_the_end_of_a_period_is_not_quiet : IsQuiet behind_31 → ⊥
+pub a_boundary_at_the_end_of_a_period_is_not_quiet : IsUndisturbed after_31 → ⊥
 a_boundary_at_the_end_of_a_period_is_not_quiet quiet = let ended : true ≡ false = quiet.period in absurd cc
 
 -- Who has a unit.
@@ -254,7 +255,7 @@ that_is_real = record {
   pairs = λ has. record { each = stood_there };
 }
 
-pub no_double_miss_ends_a_unit : (new : Held) → EndsReally (doubled 0) new → ⊥
+pub no_double_miss_ends_a_unit : (new : Held) → EndsUnitReally (doubled 0) new → ⊥
 no_double_miss_ends_a_unit new ends = let left : false ≡ true = ends.left in absurd cc
 
 -- the unit begins again, but nothing in the buffer answers for the page

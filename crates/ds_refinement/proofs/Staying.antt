@@ -12,21 +12,21 @@ use Rattle.ds_core.specs.Core.{CoreState}
 use Rattle.ds_core.specs.Effect.{step}
 use Rattle.ds_pagemap.specs.Machine.{State}
 use Rattle.ds_pagemap.specs.declared.turn.Turn.{Turn}
-use Rattle.ds_refinement.specs.Course.{Pages, Begun, AtWord, AtDoubleMiss, AtModification, Work, Course}
-use Rattle.ds_refinement.specs.CourseSteps.{Next, Tables, tabled}
+use Rattle.ds_refinement.specs.Course.{UnitPages, Begun, AtWord, AtDoubleMiss, AtModification, Work, Course}
+use Rattle.ds_refinement.specs.Inner.CourseSteps.{Next, Tables, tabled}
 use Rattle.ds_refinement.specs.Tally.{IsTallied, turns}
 use Rattle.ds_refinement.proofs.UnitCourses as courses
 use Rattle.ds_refinement.specs.declared.step.Step.TheVariants.{Inside}
 use Rattle.ds_refinement.specs.Told.{code_in}
 use Rattle.ds_refinement.specs.Held.{Held, Own}
-use Rattle.ds_refinement.specs.Needs.{pages_of}
-use Rattle.ds_refinement.specs.Counts.{Counts, HasNone, counts_of, course_of, fresh, may_write, one_more, one_tabled, one_copied, one_served, one_word, place_by, place_of}
+use Rattle.ds_refinement.specs.Needs.{pages_of_unit}
+use Rattle.ds_refinement.specs.Counts.{Counts, HasNone, counts_of, course_of, fresh_counts, may_write, one_more, one_tabled, one_copied, one_served, one_word, place_by, unit_place}
 use Rattle.ds_refinement.specs.Units.{has_left_user, is_general, is_served}
 use Rattle.ds_refinement.specs.Handling.{touches}
-use Rattle.ds_refinement.specs.Stands.{IsSound}
+use Rattle.ds_refinement.specs.Inner.Stands.{IsSound}
 use Rattle.ds_refinement.specs.Steps.{Follows, Moves}
 use Rattle.ds_refinement.specs.Real.{GoesBack, GoesOnReally, HasUnit, IsReal}
-use Rattle.ds_refinement.specs.Written.{HasWritten, KeepsSlot, KeepsWritten}
+use Rattle.ds_refinement.specs.Inner.Written.{HasWritten, KeepsSlot, KeepsWritten}
 use Rattle.ds_refinement.proofs.Standing.{away_is, first_ready, served_is}
 use Rattle.ds_refinement.proofs.AskedFor.{entries_stay}
 use Rattle.ds_refinement.proofs.Tallied.{tallied_of}
@@ -45,8 +45,8 @@ same_slot : (old new : Held) (slot : ℕ) → slice_get new.core.entries slot �
 same_slot old new slot same = record { key = λ e at. (e, same ∙ at, refl, refl); whole = λ none. same }
 
 -- a step of the unit's course, unless it is a copy, keeps what was written
-keeps_by : (old new : Held) (dirty : ℕ → Bool) (pages : Pages) (d : Course) → IsTallied (course_of old.core (counts_of old.own) dirty pages)
-    → Next (course_of old.core (counts_of old.own) dirty pages) d → place_of old.core ≢ AtModification
+keeps_by : (old new : Held) (dirty : ℕ → Bool) (pages : UnitPages) (d : Course) → IsTallied (course_of old.core (counts_of old.own) dirty pages)
+    → Next (course_of old.core (counts_of old.own) dirty pages) d → unit_place old.core ≢ AtModification
     → d.work.entries ≡ new.core.entries → counts_in d.work ≡ counts_of new.own → new.own.services + old.own.tables ≡ old.own.services + new.own.tables → KeepsWritten old new
 keeps_by old new dirty pages d tallied next apart entries counts even =
     let c : Course = course_of old.core (counts_of old.own) dirty pages in record {
@@ -96,20 +96,20 @@ keeps_copied old new same counts =
 
 -- Where the processor is.
 
-at_a_word : (c : CoreState) → is_user c.system ≡ false → is_general c ≡ false → place_of c ≢ AtModification
-at_a_word c user general = λ (wrong : place_of c ≡ AtModification).
-    let is : place_of c ≡ AtWord ((c.pc - 0x80000000) / 4) =
+at_a_word : (c : CoreState) → is_user c.system ≡ false → is_general c ≡ false → unit_place c ≢ AtModification
+at_a_word c user general = λ (wrong : unit_place c ≡ AtModification).
+    let is : unit_place c ≡ AtWord ((c.pc - 0x80000000) / 4) =
     ap₂ (λ (u g : Bool). place_by u c.slot g (bits c.system.status 3 1 == 1) (code_in c.system == 1) c.pc) user general in
     let no : AtWord ((c.pc - 0x80000000) / 4) ≡ AtModification = sym is ∙ wrong in
     cc
 
-at_double_miss : (c : CoreState) → is_user c.system ≡ false → is_general c ≡ true → has_left_user c ≡ false → place_of c ≡ AtDoubleMiss
+at_double_miss : (c : CoreState) → is_user c.system ≡ false → is_general c ≡ true → has_left_user c ≡ false → unit_place c ≡ AtDoubleMiss
 at_double_miss c user general left =
     ap₂ (λ (u g : Bool). place_by u c.slot g (bits c.system.status 3 1 == 1) (code_in c.system == 1) c.pc) user general
     ∙ ap (λ (l : Bool). place_by false c.slot true l (code_in c.system == 1) c.pc) left
 
-not_modified : (c : CoreState) → place_of c ≡ AtDoubleMiss → place_of c ≢ AtModification
-not_modified c is = λ (wrong : place_of c ≡ AtModification). let no : AtDoubleMiss ≡ AtModification = sym is ∙ wrong in cc
+not_modified : (c : CoreState) → unit_place c ≡ AtDoubleMiss → unit_place c ≢ AtModification
+not_modified c is = λ (wrong : unit_place c ≡ AtModification). let no : AtDoubleMiss ≡ AtModification = sym is ∙ wrong in cc
 
 one_each : (services tables : ℕ) → services + 1 + tables ≡ services + (tables + 1)
 one_each services tables = omega arith
@@ -134,8 +134,8 @@ module _ (old new : Held) (sound : IsSound old) (follows : Follows Inside old ne
   abbrev dirty : ℕ → Bool
   dirty = may_write old.kept first.0
 
-  abbrev pages : Pages
-  pages = pages_of m first.0
+  abbrev pages : UnitPages
+  pages = pages_of_unit m first.0
 
   abbrev course : Course
   course = course_of old.core (counts_of old.own) dirty pages
@@ -176,7 +176,7 @@ module _ (old new : Held) (sound : IsSound old) (follows : Follows Inside old ne
   of_double_miss : is_served old.core ≡ true → has_left_user old.core ≡ false → GoesBack old new → KeepsWritten old new
   of_double_miss served left back =
       let parts = served_is old.core served in
-      let place : place_of old.core ≡ AtDoubleMiss = at_double_miss old.core parts.0 parts.1 left in
+      let place : unit_place old.core ≡ AtDoubleMiss = at_double_miss old.core parts.0 parts.1 left in
       let wrote = back.written left in
       let e : Entry = entry_of old.core.system.entry_hi wrote.0 in
       keeps_by old new dirty pages (record { place = Begun; page = course.page; work = tabled e course.work }) tallied
@@ -231,7 +231,7 @@ keeps_again old between new a b =
 pub never_now : (slot wired : ℕ) → slot < 8 → turns slot wired ≤ 0 → ⊥
 never_now slot wired low few = grind (arith, nat_tests)
 
-none_of_fresh : (wired slot : ℕ) → Written (fresh wired) slot → ⊥
+none_of_fresh : (wired slot : ℕ) → Written (fresh_counts wired) slot → ⊥
 none_of_fresh wired slot (inl in_it) = let within : in_it.0 < 0 = in_it.1 in omega (arith, within)
 none_of_fresh wired slot (inr table) = never_now slot wired table.0 table.1
 

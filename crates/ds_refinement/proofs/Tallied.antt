@@ -7,17 +7,18 @@ use Rattle.ds_core.specs.Core.{CoreState}
 use Rattle.ds_refinement.specs.Told.{code_in}
 use Rattle.ds_refinement.proofs.Registers.{HasSeat}
 use Rattle.ds_pagemap.specs.Machine.{State, touched}
-use Rattle.ds_refinement.specs.Course.{Pages, after_touch}
-use Rattle.ds_refinement.specs.CourseSteps.{Next}
+use Rattle.ds_refinement.specs.Course.{UnitPages}
+use Rattle.ds_refinement.specs.Inner.Course.{after_touch}
+use Rattle.ds_refinement.specs.Inner.CourseSteps.{Next}
 use Rattle.ds_refinement.specs.Tally.{IsTallied}
 use Rattle.ds_refinement.proofs.UnitCourses as courses
-use Rattle.ds_refinement.specs.Needs.{pages_of}
-use Rattle.ds_refinement.specs.Asks.{TellsClean}
+use Rattle.ds_refinement.specs.Needs.{pages_of_unit}
+use Rattle.ds_refinement.specs.Inner.Asks.{TellsClean}
 use Rattle.ds_cp0.specs.System.{asid_of}
 use Rattle.ds_tlb.specs.declared.entry.Entry.{Entry}
 use Rattle.ds_grants.specs.Buffer.{lo_of, BufferHolds}
 use Rattle.ds_refinement.proofs.Lookups.{found_of}
-use Rattle.ds_refinement.specs.Services.{with_failure}
+use Rattle.ds_refinement.specs.Inner.Services.{with_failure}
 use Rattle.ds_refinement.proofs.Standing.{own_unseen}
 use Rattle.ds_core.specs.declared.event.Event.{Event}
 use Rattle.ds_core.specs.declared.event.Event.TheVariants as event
@@ -27,12 +28,13 @@ use Rattle.ds_refinement.specs.Held.{Held, Kept, Own, space_of}
 use Rattle.ds_refinement.specs.Stands.{Agrees, CountedBy, IsUnbegun, RunningBy, Stands}
 use Rattle.ds_refinement.proofs.Slots.{ticked_low, ticked_high}
 use Rattle.ds_refinement.proofs.AskedFor.{goes_on, retires}
-use Rattle.ds_refinement.specs.Counts.{one_more, CountedAfter, Counts, HasNone, HasRanges, IsFew, fresh, place_by, course_of, counts_of, may_write}
+use Rattle.ds_refinement.specs.Counts.{one_more, Counts, HasNone, HasRanges, fresh_counts, place_by, course_of, counts_of, may_write}
+use Rattle.ds_refinement.specs.Inner.Counts.{CountedAfter, IsFew}
 use Rattle.ds_refinement.proofs.Needed.{pages_touched}
 
 -- a unit begins
-pub begins : (c : CoreState) (wired : ℕ) (dirty : ℕ → Bool) (pages : Pages) → is_user c.system ≡ true → c.slot ≡ false → HasRanges c (fresh wired) → IsTallied (course_of c (fresh wired) dirty pages)
-begins c wired dirty pages user outside r = courses.begins (course_of c (fresh wired) dirty pages) (record {
+pub begins : (c : CoreState) (wired : ℕ) (dirty : ℕ → Bool) (pages : UnitPages) → is_user c.system ≡ true → c.slot ≡ false → HasRanges c (fresh_counts wired) → IsTallied (course_of c (fresh_counts wired) dirty pages)
+begins c wired dirty pages user outside r = courses.begins (course_of c (fresh_counts wired) dirty pages) (record {
   place = ap₂ (λ (a b : Bool). place_by a b (c.pc == 0x80000080) (bits c.system.status 3 1 == 1) (code_in c.system == 1) c.pc) user outside;
   size = r.size;
   low = r.low;
@@ -46,27 +48,27 @@ begins c wired dirty pages user outside r = courses.begins (course_of c (fresh w
 })
 
 -- a step that touches the process
-pub touches : (m : State) (p : ℕ) (rest : List ℕ) (c d : CoreState) (n k : Counts) (dirty after : ℕ → Bool) → m.ready ≡ p ∷ rest → HasSeat m p → IsTallied (course_of c n dirty (pages_of m p))
-    → Next (course_of c n dirty (pages_of m p)) (course_of d k after (after_touch (pages_of m p))) → IsTallied (course_of d k after (pages_of (touched true m) p))
+pub touches : (m : State) (p : ℕ) (rest : List ℕ) (c d : CoreState) (n k : Counts) (dirty after : ℕ → Bool) → m.ready ≡ p ∷ rest → HasSeat m p → IsTallied (course_of c n dirty (pages_of_unit m p))
+    → Next (course_of c n dirty (pages_of_unit m p)) (course_of d k after (after_touch (pages_of_unit m p))) → IsTallied (course_of d k after (pages_of_unit (touched true m) p))
 touches m p rest c d n k dirty after ready seat i next =
-    subst (λ (pages : Pages). IsTallied (course_of d k after pages)) (sym (pages_touched m p rest ready seat)) (courses.goes_on (course_of c n dirty (pages_of m p)) (course_of d k after (after_touch (pages_of m p))) i next)
+    subst (λ (pages : UnitPages). IsTallied (course_of d k after pages)) (sym (pages_touched m p rest ready seat)) (courses.goes_on (course_of c n dirty (pages_of_unit m p)) (course_of d k after (after_touch (pages_of_unit m p))) i next)
 
 -- what is tallied has its ranges
-pub ranges : (c : CoreState) (n : Counts) (dirty : ℕ → Bool) (pages : Pages) → IsTallied (course_of c n dirty pages) → HasRanges c n
+pub ranges : (c : CoreState) (n : Counts) (dirty : ℕ → Bool) (pages : UnitPages) → IsTallied (course_of c n dirty pages) → HasRanges c n
 ranges c n dirty pages i = let t = i.tally in record { size = t.size; low = t.low; high = t.high; turn = t.turn }
 
 -- an instruction keeps the counts: inside the unit they go on, and where it ends they begin again
 pub instruction_counted : (h : Held) (m : State) (p : ℕ) (rest : List ℕ) (s : core.Step) (n : Counts) (dirty : ℕ → Bool) → Agrees h m → h.kept.state.ready ≡ p ∷ rest → is_user h.core.system ≡ true → s ≡ step h.core h.bus
-    → TellsClean h.core.entries (pages_of m p).access (asid_of h.core.system) dirty
-    → IsTallied (course_of h.core n dirty (pages_of m p)) → CountedAfter s.event s.core n dirty (pages_of m p)
+    → TellsClean h.core.entries (pages_of_unit m p).access (asid_of h.core.system) dirty
+    → IsTallied (course_of h.core n dirty (pages_of_unit m p)) → CountedAfter s.event s.core n dirty (pages_of_unit m p)
 instruction_counted h m p rest s n dirty k ready user is clean i = by_event s.event refl
   where
-    going : s.event ≢ event.Retired → IsTallied (course_of s.core (one_more n) dirty (pages_of m p))
-    going more = courses.goes_on (course_of h.core n dirty (pages_of m p)) (course_of s.core (one_more n) dirty (pages_of m p)) i (goes_on h m p rest k ready user s is n dirty more clean)
+    going : s.event ≢ event.Retired → IsTallied (course_of s.core (one_more n) dirty (pages_of_unit m p))
+    going more = courses.goes_on (course_of h.core n dirty (pages_of_unit m p)) (course_of s.core (one_more n) dirty (pages_of_unit m p)) i (goes_on h m p rest k ready user s is n dirty more clean)
 
-    by_event : (e : Event) → s.event ≡ e → CountedAfter e s.core n dirty (pages_of m p)
+    by_event : (e : Event) → s.event ≡ e → CountedAfter e s.core n dirty (pages_of_unit m p)
     by_event event.Retired at =
-        let r = ranges h.core n dirty (pages_of m p) i in
+        let r = ranges h.core n dirty (pages_of_unit m p) i in
         let done = retires h m p rest k ready user s is at in
         record {
           size = ap length done.0 ∙ r.size;
@@ -83,7 +85,7 @@ counted_of : (h : Held) (m : State) (p : ℕ) (rest : List ℕ) → Stands h m �
 counted_of h m p rest k ready = subst (λ (ps : List ℕ). CountedBy ps h.core h.own h.kept m) ready k.counted
 
 -- the unit of the first ready process is tallied
-pub tallied_of : (h : Held) (m : State) (p : ℕ) (rest : List ℕ) → Stands h m → h.kept.state.ready ≡ p ∷ rest → IsTallied (course_of h.core (counts_of h.own) (may_write h.kept p) (pages_of m p))
+pub tallied_of : (h : Held) (m : State) (p : ℕ) (rest : List ℕ) → Stands h m → h.kept.state.ready ≡ p ∷ rest → IsTallied (course_of h.core (counts_of h.own) (may_write h.kept p) (pages_of_unit m p))
 tallied_of h m p rest k ready = (counted_of h m p rest k ready).0
 
 -- and where none of its instructions is counted it is unbegun
@@ -95,7 +97,7 @@ pub has_begun : (h : Held) (m : State) (p : ℕ) (rest : List ℕ) → Stands h 
 has_begun h m p rest k ready kernel = λ none. (let no : true ≡ false = sym (unbegun_of h m p rest k ready none).mode ∙ kernel in absurd cc)
 
 -- a unit that has not begun is tallied, whatever it asks for
-pub none_tallied : (c : CoreState) (own : Own) (dirty : ℕ → Bool) (pages : Pages) → is_user c.system ≡ true → c.slot ≡ false → HasNone own → HasRanges c (counts_of own) → IsTallied (course_of c (counts_of own) dirty pages)
+pub none_tallied : (c : CoreState) (own : Own) (dirty : ℕ → Bool) (pages : UnitPages) → is_user c.system ≡ true → c.slot ≡ false → HasNone own → HasRanges c (counts_of own) → IsTallied (course_of c (counts_of own) dirty pages)
 none_tallied c own dirty pages user outside none r =
     subst (λ (n : Counts). IsTallied (course_of c n dirty pages)) (sym none) (begins c own.wired dirty pages user outside (record { size = r.size; low = r.low; high = r.high; turn = r.turn }))
 
@@ -107,7 +109,7 @@ UnbegunBy (p ∷ rest) c m = IsUnbegun c p m
 -- so nothing of it is counted
 pub none_counted : (queue : List ℕ) (c : CoreState) (own : Own) (k : Kept) (m : State) → UnbegunBy queue c m → HasNone own → HasRanges c (counts_of own) → CountedBy queue c own k m
 none_counted [] c own k m u none ranges = (none, ranges)
-none_counted (p ∷ rest) c own k m u none ranges = (none_tallied c own (may_write k p) (pages_of m p) u.mode u.first none ranges, λ spent. u)
+none_counted (p ∷ rest) c own k m u none ranges = (none_tallied c own (may_write k p) (pages_of_unit m p) u.mode u.first none ranges, λ spent. u)
 
 -- while no instruction is counted, the processor is in user mode, whoever is ready
 user_by : (queue : List ℕ) (c : CoreState) (own : Own) (k : Kept) (m : State) → RunningBy queue c k m → CountedBy queue c own k m → own.spent ≡ 0 → is_user c.system ≡ true
@@ -120,7 +122,7 @@ user_of h m k = user_by h.kept.state.ready h.core h.own h.kept m k.agrees.runnin
 -- the ranges, whoever is ready
 ranges_by : (queue : List ℕ) (c : CoreState) (own : Own) (k : Kept) (m : State) → CountedBy queue c own k m → HasRanges c (counts_of own)
 ranges_by [] c own k m i = i.1
-ranges_by (p ∷ rest) c own k m i = ranges c (counts_of own) (may_write k p) (pages_of m p) i.0
+ranges_by (p ∷ rest) c own k m i = ranges c (counts_of own) (may_write k p) (pages_of_unit m p) i.0
 
 pub ranges_of : (h : Held) (m : State) → Stands h m → HasRanges h.core (counts_of h.own)
 ranges_of h m k = ranges_by h.kept.state.ready h.core h.own h.kept m k.counted
@@ -136,7 +138,7 @@ few_by [] c own k m i = record {
   wired = i.1.turn;
 }
 few_by (p ∷ rest) c own k m i =
-    let s = courses.short (course_of c (counts_of own) (may_write k p) (pages_of m p)) i.0 in
+    let s = courses.short (course_of c (counts_of own) (may_write k p) (pages_of_unit m p)) i.0 in
     let steps : own.since ≤ 54 = s.since in
     let services : own.services ≤ 6 = s.services in
     record { spent = s.spent; written = s.written; since = omega (arith, steps); tables = s.tables; services = omega (arith, services); wired = i.0.tally.turn }

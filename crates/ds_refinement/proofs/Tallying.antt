@@ -3,13 +3,15 @@ use Rattle.std.proofs.Common.{◌≡◌, ℕ, zero, suc, ◌+◌, ◌-◌, ◌<�
 use Rattle.std.specs.Prelude.{slice_set, None}
 use Rattle.ds_word.specs.Word.{truth}
 use Rattle.ds_tlb.specs.declared.entry.Entry.{Entry}
-use Rattle.ds_tlb.specs.Entries.{ticked, find}
+use Rattle.ds_tlb.specs.Entries.{random_after, find}
 use Rattle.ds_refinement.specs.KeptEntries.{IsKept}
 use Rattle.ds_refinement.specs.Cost.{Met, cost}
 use Rattle.ds_grants.proofs.OwnFrames.{truth_small}
 use Rattle.ds_refinement.proofs.Keeping.{writes, wired}
-use Rattle.ds_refinement.specs.Course.{Ask, Fetch, Slot, Access, asked, after_touch, Work}
-use Rattle.ds_refinement.specs.CourseSteps.{table_page, counted, wrote, turned, tabled, copied}
+use Rattle.ds_refinement.specs.Course.{Ask, Fetch, Slot, Access, asked, Work}
+use Rattle.ds_refinement.specs.Inner.Course.{after_touch}
+use Rattle.ds_refinement.specs.CourseSteps.{table_page, next_wired}
+use Rattle.ds_refinement.specs.Inner.CourseSteps.{counted, wrote, tabled, copied}
 use Rattle.ds_grants.specs.Copies.{HasKeys}
 use Rattle.ds_refinement.specs.Tally.{has_page, has_table, refills, doubles, copies, wasted, IsTableKept, Tally}
 use Rattle.ds_refinement.proofs.Slots.{ticked_low, ticked_high, all_stood_tick, stood_first, kept_ticks, kept_first, turn_small, table_first, table_turns, table_stays, table_found, kept_found, kept_keys, table_keys, since_ticks, since_writes}
@@ -94,12 +96,12 @@ wrote_by w met new e begun few space t more same same_copy r d c =
     let refilled = t.refilled in
     let doubled = t.doubled in
     let served = t.served in
-    let kept : (ask : Ask) → (has_page met ask ≡ true) ⊎ (asked (after_touch w.pages) ask ≡ e.vpn) → IsKept (slice_set w.entries w.random e) (ticked 64 8 w.random) (w.spent + 1 - 7) (asked (after_touch w.pages) ask) w.asid =
+    let kept : (ask : Ask) → (has_page met ask ≡ true) ⊎ (asked (after_touch w.pages) ask ≡ e.vpn) → IsKept (slice_set w.entries w.random e) (random_after 64 8 w.random) (w.spent + 1 - 7) (asked (after_touch w.pages) ask) w.asid =
     λ ask. elim [
-      | inl old ↦ subst (λ (page : ℕ). IsKept (slice_set w.entries w.random e) (ticked 64 8 w.random) (w.spent + 1 - 7) page w.asid) (sym (page_stays w met t ask old))
+      | inl old ↦ subst (λ (page : ℕ). IsKept (slice_set w.entries w.random e) (random_after 64 8 w.random) (w.spent + 1 - 7) page w.asid) (sym (page_stays w met t ask old))
           (kept_ticks (slice_set w.entries w.random e) w.random w.spent (asked w.pages ask) w.asid t.low t.high few (writes w.entries w.random (w.spent - 7) (asked w.pages ask) w.asid e (t.pages ask old)))
-      | inr now ↦ subst (λ (page : ℕ). IsKept (slice_set w.entries w.random e) (ticked 64 8 w.random) (w.spent + 1 - 7) page w.asid) (sym now)
-          (subst (λ (asid : ℕ). IsKept (slice_set w.entries w.random e) (ticked 64 8 w.random) (w.spent + 1 - 7) e.vpn asid) space (kept_first w.entries e w.random w.spent t.size t.low t.high begun))
+      | inr now ↦ subst (λ (page : ℕ). IsKept (slice_set w.entries w.random e) (random_after 64 8 w.random) (w.spent + 1 - 7) page w.asid) (sym now)
+          (subst (λ (asid : ℕ). IsKept (slice_set w.entries w.random e) (random_after 64 8 w.random) (w.spent + 1 - 7) e.vpn asid) space (kept_first w.entries e w.random w.spent t.size t.low t.high begun))
     ] in
     record {
       pages = λ ask is. kept ask (more ask is);
@@ -164,12 +166,12 @@ tabled_by w met new e space t more same same_copy r d c =
     let doubled = t.doubled in
     let served = t.served in
     let most = doubles_few met in
-    let kept : (ask : Ask) → (has_table met ask ≡ true) ⊎ (table_page (asked (after_touch w.pages) ask) ≡ e.vpn) → IsTableKept (slice_set w.entries w.wired e) (turned w.wired) (w.tables + 1) (table_page (asked (after_touch w.pages) ask)) w.asid =
+    let kept : (ask : Ask) → (has_table met ask ≡ true) ⊎ (table_page (asked (after_touch w.pages) ask) ≡ e.vpn) → IsTableKept (slice_set w.entries w.wired e) (next_wired w.wired) (w.tables + 1) (table_page (asked (after_touch w.pages) ask)) w.asid =
     λ ask. elim [
-      | inl old ↦ subst (λ (page : ℕ). IsTableKept (slice_set w.entries w.wired e) (turned w.wired) (w.tables + 1) (table_page page) w.asid) (sym (table_page_stays w met t ask old))
+      | inl old ↦ subst (λ (page : ℕ). IsTableKept (slice_set w.entries w.wired e) (next_wired w.wired) (w.tables + 1) (table_page page) w.asid) (sym (table_page_stays w met t ask old))
           (table_turns w.entries e w.wired w.tables (table_page (asked w.pages ask)) w.asid t.turn (omega arith) (t.tables ask old))
-      | inr now ↦ subst (λ (page : ℕ). IsTableKept (slice_set w.entries w.wired e) (turned w.wired) (w.tables + 1) page w.asid) (sym now)
-          (subst (λ (asid : ℕ). IsTableKept (slice_set w.entries w.wired e) (turned w.wired) (w.tables + 1) e.vpn asid) space (table_first w.entries e w.wired w.tables t.size t.turn))
+      | inr now ↦ subst (λ (page : ℕ). IsTableKept (slice_set w.entries w.wired e) (next_wired w.wired) (w.tables + 1) page w.asid) (sym now)
+          (subst (λ (asid : ℕ). IsTableKept (slice_set w.entries w.wired e) (next_wired w.wired) (w.tables + 1) e.vpn asid) space (table_first w.entries e w.wired w.tables t.size t.turn))
     ] in
     record {
       pages = λ ask is. subst (λ (page : ℕ). IsKept (slice_set w.entries w.wired e) w.random (w.spent - 7) page w.asid) (sym (page_stays w met t ask (same ask is)))

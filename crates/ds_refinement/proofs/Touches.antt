@@ -6,7 +6,7 @@ use Rattle.ds_grants.specs.Words.{granted_word}
 use Rattle.ds_core.specs.Core.{CoreState}
 use Rattle.ds_pagemap.specs.Machine.{State, Process, process_of, with_process, touched, touched_process}
 use Rattle.ds_refinement.specs.Held.{Held, Kept}
-use Rattle.ds_refinement.specs.Services.{touched_registers}
+use Rattle.ds_refinement.specs.Inner.Services.{touched_registers}
 use Rattle.ds_refinement.proofs.Registers.{HasSeat, process_put}
 use Rattle.ds_refinement.proofs.Links.{touched_link}
 use Rattle.ds_refinement.specs.Units.{has_left_user, is_general}

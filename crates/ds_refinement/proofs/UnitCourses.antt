@@ -9,9 +9,11 @@ use Rattle.ds_tlb.specs.Entries.{find}
 use Rattle.ds_refinement.specs.Cost.{Met, cost}
 use Rattle.ds_refinement.proofs.Costs.{costs}
 use Rattle.ds_grants.proofs.OwnFrames.{truth_small}
-use Rattle.ds_refinement.specs.Course.{Ask, Fetch, Slot, Access, asked, Place, Begun, InItsSlot, AtWord, AtDoubleMiss, AtModification, AtService, Work, Course}
-use Rattle.ds_refinement.specs.CourseSteps.{table_page, counted, wrote, turned, tabled, copied, Next, Branches, Misses, MissesInSlot, IsUsers, Modifies, Traps, Passes, MissesTable, Writes, Returns, Tables, Copies, After, Begins}
-use Rattle.ds_refinement.specs.Tally.{has_page, wasted, AllStood, IsSince, Tally, IsTabling, IsModified, IsAt, IsTallied, IsShort, Stood, WasWritten, turns, is_serving, steps_ahead}
+use Rattle.ds_refinement.specs.Course.{Ask, Fetch, Slot, Access, asked, UnitPlace, Begun, InItsSlot, AtWord, AtDoubleMiss, AtModification, AtService, Work, Course}
+use Rattle.ds_refinement.specs.CourseSteps.{table_page, next_wired}
+use Rattle.ds_refinement.specs.Inner.CourseSteps.{counted, wrote, tabled, copied, Next, Branches, Misses, MissesInSlot, IsUsers, Modifies, Traps, Passes, MissesTable, Writes, Returns, Tables, Copies, After, BeginsUnit}
+use Rattle.ds_refinement.specs.Tally.{has_page, wasted, AllStood, IsSince, Tally, IsTabling, IsModified, IsSpentAt, IsTallied, Stood, turns}
+use Rattle.ds_refinement.specs.Inner.Tally.{IsShort, WasWritten, is_serving, steps_ahead}
 use Rattle.ds_refinement.proofs.Tallying.{doubles_few, refills_few, copies_few, ticks, page_unmet, table_unmet, copy_unmet, wrote_tally, tabled_tally, copied_tally}
 use Rattle.ds_refinement.proofs.Slots.{turn_apart, turn_first, turn_on, stood_among, stood_apart}
 
@@ -27,11 +29,11 @@ room met ask unmet =
     ]) unmet
 
 -- it stands where it is said to stand
-there : (c : Course) (met : Met) (place : Place) → c.place ≡ place → IsAt c.place c.page c.work met → IsAt place c.page c.work met
-there c met place is at = subst (λ (s : Place). IsAt s c.page c.work met) is at
+there : (c : Course) (met : Met) (place : UnitPlace) → c.place ≡ place → IsSpentAt c.place c.page c.work met → IsSpentAt place c.page c.work met
+there c met place is at = subst (λ (s : UnitPlace). IsSpentAt s c.page c.work met) is at
 
 -- a state with its tally
-tallied : (place : Place) (page : ℕ) (w : Work) (met : Met) → Tally w met → IsAt place page w met → IsTallied (record { place = place; page = page; work = w })
+tallied : (place : UnitPlace) (page : ℕ) (w : Work) (met : Met) → Tally w met → IsSpentAt place page w met → IsTallied (record { place = place; page = page; work = w })
 tallied place page w met t at = record { met = met; tally = t; at = at }
 
 at_most_2 : (ask : Ask) → wasted ask ≤ 2
@@ -50,7 +52,7 @@ two Slot apart = omega arith
 two Access apart = omega arith
 
 -- another word of the handler
-passes : (c : Course) (met : Met) (word : ℕ) → Tally c.work met → word < 8 → ◌≢◌ {A = ℕ} word 6 → IsAt (AtWord word) c.page c.work met
+passes : (c : Course) (met : Met) (word : ℕ) → Tally c.work met → word < 8 → ◌≢◌ {A = ℕ} word 6 → IsSpentAt (AtWord word) c.page c.work met
     → IsTallied (record { place = AtWord (word + 1); page = c.page; work = counted c.work })
 passes c met word t low apart (inl a) =
     let r = a.1 in
@@ -69,7 +71,7 @@ passes c met word t low apart (inr a) =
     tallied (AtWord (word + 1)) c.page (counted c.work) met (ticks c.work met (omega arith) t) (inr ((omega arith), (omega arith), (omega arith)))
 
 -- the miss of a table
-misses_table : (c : Course) (met : Met) → Tally c.work met → find c.work.entries (table_page c.page) c.work.asid ≡ None → IsAt (AtWord 2) c.page c.work met
+misses_table : (c : Course) (met : Met) → Tally c.work met → find c.work.entries (table_page c.page) c.work.asid ≡ None → IsSpentAt (AtWord 2) c.page c.work met
     → IsTallied (record { place = AtDoubleMiss; page = table_page c.page; work = counted c.work })
 misses_table c met t none (inl a) =
     let r = a.1 in
@@ -82,7 +84,7 @@ misses_table c met t none (inl a) =
 misses_table c met t none (inr a) = let low : 7 ≤ 2 = a.0 in absurd (omega arith)
 
 -- the seventh word
-writes : (c : Course) (met : Met) (e : Entry) → Tally c.work met → e.vpn ≡ c.page → e.asid ≡ c.work.asid → IsAt (AtWord 6) c.page c.work met
+writes : (c : Course) (met : Met) (e : Entry) → Tally c.work met → e.vpn ≡ c.page → e.asid ≡ c.work.asid → IsSpentAt (AtWord 6) c.page c.work met
     → IsTallied (record { place = AtWord 7; page = c.page; work = wrote e c.work })
 writes c met e t page space (inl a) =
     let r = a.1 in
@@ -95,7 +97,7 @@ writes c met e t page space (inl a) =
 writes c met e t page space (inr a) = let low : 7 ≤ 6 = a.0 in absurd (omega arith)
 
 -- the last
-returns : (c : Course) (met : Met) → Tally c.work met → IsAt (AtWord 8) c.page c.work met → IsTallied (record { place = Begun; page = c.page; work = counted c.work })
+returns : (c : Course) (met : Met) → Tally c.work met → IsSpentAt (AtWord 8) c.page c.work met → IsTallied (record { place = Begun; page = c.page; work = counted c.work })
 returns c met t (inl a) = let high : 8 ≤ 6 = a.0 in absurd (omega arith)
 returns c met t (inr a) =
     let most = costs met in
@@ -103,11 +105,11 @@ returns c met t (inr a) =
     tallied Begun c.page (counted c.work) met (ticks c.work met (omega arith) t) (omega arith)
 
 -- in user mode
-in_user : (c : Course) (met : Met) → IsUsers c.place → IsAt c.place c.page c.work met → c.work.spent ≤ cost met + 1
+in_user : (c : Course) (met : Met) → IsUsers c.place → IsSpentAt c.place c.page c.work met → c.work.spent ≤ cost met + 1
 in_user c met (inl first) at = let few : c.work.spent ≤ cost met = there c met Begun first at in omega arith
 in_user c met (inr second) at = there c met InItsSlot second at
 
-by_step : (c d : Course) (met : Met) → Tally c.work met → IsAt c.place c.page c.work met → Next c d → IsTallied d
+by_step : (c d : Course) (met : Met) → Tally c.work met → IsSpentAt c.place c.page c.work met → Next c d → IsTallied d
 by_step c d met t at (Branches place is) =
     let few : c.work.spent ≤ cost met = there c met Begun place at in
     let most = costs met in
@@ -159,7 +161,7 @@ goes_on c d i next = by_step c d i.met i.tally i.at next
 nothing : Met
 nothing = record { early = false; fetch = false; fetch_table = false; slot = false; slot_table = false; access = false; access_table = false; copied = false }
 
-pub begins : (c : Course) → Begins c → IsTallied c
+pub begins : (c : Course) → BeginsUnit c → IsTallied c
 unfolding nothing
 begins c b =
     let w = c.work in
@@ -185,10 +187,10 @@ begins c b =
         high = b.high;
         turn = b.turn;
       };
-      at = subst (λ (s : Place). IsAt s c.page w nothing) (sym b.place) (omega arith);
+      at = subst (λ (s : UnitPlace). IsSpentAt s c.page w nothing) (sym b.place) (omega arith);
     }
 
-at_most_61 : (place : Place) (page : ℕ) (w : Work) (met : Met) → IsAt place page w met → w.spent ≤ 61
+at_most_61 : (place : UnitPlace) (page : ℕ) (w : Work) (met : Met) → IsSpentAt place page w met → w.spent ≤ 61
 at_most_61 Begun page w met at = let most = costs met in omega arith
 at_most_61 InItsSlot page w met at = let most = costs met in omega arith
 at_most_61 AtService page w met at = let most = costs met in omega arith
@@ -303,7 +305,7 @@ refill_changes c d e slot is = elim (cases_eq slot c.work.random) [
 -- and the monitor at the slot whose turn it is
 table_changes : (c d : Course) (e : Entry) (slot : ℕ) → c.work.wired < 8 → d.work ≡ tabled e c.work → Changes c d slot
 table_changes c d e slot turn is = elim (cases_eq slot c.work.wired) [
-  | inl same ↦ inl (still c d slot (tabled e c.work) is (inr (subst (λ (n : ℕ). (n < 8) × (turns n (turned c.work.wired) ≤ c.work.tables + 1)) (sym same) (turn, turn_first c.work.wired c.work.tables turn))))
+  | inl same ↦ inl (still c d slot (tabled e c.work) is (inr (subst (λ (n : ℕ). (n < 8) × (turns n (next_wired c.work.wired) ≤ c.work.tables + 1)) (sym same) (turn, turn_first c.work.wired c.work.tables turn))))
   | inr apart ↦ inr (ap (λ (w : Work). slice_get w.entries slot) is ∙ read_set_other c.work.entries c.work.wired slot e apart)
 ]
 
@@ -325,14 +327,14 @@ others c d slot i next apart = others_by c d slot i.tally.turn apart next
 
 -- Each step leaves fewer to take.
 
-fewer : (c : Course) (place : Place) (n : ℕ) → c.work.spent ≤ 61 → c.place ≡ place → is_serving place ≡ false → n ≤ 1 → 2 * (64 - (c.work.spent + 1)) + n < steps_ahead c
+fewer : (c : Course) (place : UnitPlace) (n : ℕ) → c.work.spent ≤ 61 → c.place ≡ place → is_serving place ≡ false → n ≤ 1 → 2 * (64 - (c.work.spent + 1)) + n < steps_ahead c
 fewer c place n most is user small = rw (is, user) (omega arith)
 
 fewer_of_user : (c : Course) → c.work.spent ≤ 61 → IsUsers c.place → 2 * (64 - (c.work.spent + 1)) + 1 < steps_ahead c
 fewer_of_user c most (inl first) = fewer c Begun 1 most first refl (omega arith)
 fewer_of_user c most (inr second) = fewer c InItsSlot 1 most second refl (omega arith)
 
-served_fewer : (c : Course) (place : Place) → c.place ≡ place → is_serving place ≡ true → 2 * (64 - c.work.spent) < steps_ahead c
+served_fewer : (c : Course) (place : UnitPlace) → c.place ≡ place → is_serving place ≡ true → 2 * (64 - c.work.spent) < steps_ahead c
 served_fewer c place is kernel = rw (is, kernel) (omega arith)
 
 falls_by : (c d : Course) → c.work.spent ≤ 61 → Next c d → steps_ahead d < steps_ahead c

@@ -3,9 +3,11 @@ use Rattle.std.proofs.Common.{◌≡◌, ◌≢◌, ℕ, suc, inl, inr, true, fa
 use Rattle.std.specs.Prelude.{slice_set, None}
 use Rattle.ds_tlb.specs.declared.entry.Entry.{Entry}
 use Rattle.ds_tlb.specs.Entries.{empty_entries, find}
-use Rattle.ds_refinement.specs.Course.{Ask, Fetch, Slot, Access, Pages, asked, Place, Begun, InItsSlot, AtWord, AtDoubleMiss, AtModification, AtService, Course}
-use Rattle.ds_refinement.specs.CourseSteps.{counted, wrote, turned, tabled, copied, table_page, Next, Branches, Misses, MissesInSlot, Modifies, Traps, Passes, MissesTable, Writes, Returns, Tables, Copies, After}
-use Rattle.ds_refinement.specs.Tally.{turns, IsShort, steps_ahead}
+use Rattle.ds_refinement.specs.Course.{Ask, Fetch, Slot, Access, UnitPages, asked, UnitPlace, Begun, InItsSlot, AtWord, AtDoubleMiss, AtModification, AtService, Course}
+use Rattle.ds_refinement.specs.CourseSteps.{next_wired, table_page}
+use Rattle.ds_refinement.specs.Inner.CourseSteps.{counted, wrote, tabled, copied, Next, Branches, Misses, MissesInSlot, Modifies, Traps, Passes, MissesTable, Writes, Returns, Tables, Copies, After}
+use Rattle.ds_refinement.specs.Tally.{turns}
+use Rattle.ds_refinement.specs.Inner.Tally.{IsShort, steps_ahead}
 
 -- an entry of a page, in address space 5
 abbrev entry : ℕ → Entry
@@ -13,7 +15,7 @@ entry page = record { vpn = page; asid = 5; pfn = 0; n = false; d = false; v = t
 
 -- the instruction stands at the end of page 1023, its slot at the beginning of the next; its data are in page 2048, and in page 3072 once the
 -- process is touched: each has a page of the page table of its own
-abbrev pages : Pages
+abbrev pages : UnitPages
 pages = record { fetch = 1023; slot = 1024; access = 2048; touched = 3072 }
 
 -- a unit of these pages begins over a buffer, where Random is 63; no page may be written
@@ -231,10 +233,10 @@ so_many_steps_are_left_of_it = (refl, refl)
 
 -- The turn of the first eight slots.
 
-pub after_slot_0_it_is_slot_1s_turn : turned 0 ≡ 1
+pub after_slot_0_it_is_slot_1s_turn : next_wired 0 ≡ 1
 after_slot_0_it_is_slot_1s_turn = refl
 
-pub after_slot_7_it_is_slot_0s_turn : turned 7 ≡ 0
+pub after_slot_7_it_is_slot_0s_turn : next_wired 7 ≡ 0
 after_slot_7_it_is_slot_0s_turn = refl
 
 pub slot_7_had_its_turn_before_slot_0 : turns 7 0 ≡ 1
@@ -246,7 +248,7 @@ a_slot_has_its_turn_again_after_eight = refl
 -- Steps that are none.
 
 -- it comes to another place
-elsewhere : (d e : Course) (place : Place) → d ≡ e → d.place ≡ place → e.place ≡ place
+elsewhere : (d e : Course) (place : UnitPlace) → d ≡ e → d.place ≡ place → e.place ≡ place
 elsewhere d e place is at = sym (ap (λ (x : Course). x.place) is) ∙ at
 
 pub a_page_with_an_entry_is_not_missed : (d : Course) → Next full d → d.place ≡ AtWord 0 → ⊥

@@ -4,7 +4,7 @@ use Rattle.ds_word.specs.Bytes.{word_at}
 use Rattle.ds_mem.specs.Memory.{frame_of}
 use Rattle.ds_mem.proofs.Words.{word_at-same_frame}
 use Rattle.ds_refill.specs.Handler.{HasWords}
-use Rattle.ds_grants.specs.Represented.{IsLow, IsHigh}
+use Rattle.ds_grants.specs.Inner.Represented.{IsLow, IsHigh}
 
 -- they lie in the first frame
 pub vectors_first : (old new : List ℕ) → frame_of new 0 ≡ frame_of old 0 → HasWords old → HasWords new

@@ -9,9 +9,10 @@ use Rattle.ds_refinement.specs.declared.step.Step.TheVariants.{Inside}
 use Rattle.ds_refinement.specs.Held.{Held}
 use Rattle.ds_refinement.specs.Units.{is_served, has_left_user}
 use Rattle.ds_refinement.specs.Handling.{InDouble}
-use Rattle.ds_refinement.specs.Stands.{Stands, CountedBy, IsSound}
+use Rattle.ds_refinement.specs.Stands.{Stands, CountedBy}
+use Rattle.ds_refinement.specs.Inner.Stands.{IsSound}
 use Rattle.ds_refinement.specs.Steps.{Follows}
-use Rattle.ds_refinement.specs.Services.{with_table_page}
+use Rattle.ds_refinement.specs.Inner.Services.{with_table_page}
 use Rattle.ds_refinement.specs.Real.{GoesBack}
 use Rattle.ds_refinement.proofs.Standing.{first_ready, served_is, waits}
 use Rattle.ds_refinement.proofs.Tallied.{has_begun, tallied_of, ranges_of}

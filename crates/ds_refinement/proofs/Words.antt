@@ -6,7 +6,7 @@ use Rattle.ds_word.specs.Word.{word, bits}
 use Rattle.ds_isa.specs.declared.instr.Late.{Late}
 use Rattle.ds_isa.specs.declared.instr.Kind.TheVariants.{Load}
 use Rattle.ds_tlb.specs.declared.entry.Entry.{Entry}
-use Rattle.ds_tlb.specs.Entries.{find, ticked}
+use Rattle.ds_tlb.specs.Entries.{find, random_after}
 use Rattle.ds_tlb.specs.Words.{entry_of}
 use Rattle.ds_cp0.specs.declared.exception.ExceptionCode.TheVariants.{LoadMiss}
 use Rattle.ds_cp0.specs.System.{System, asid_of, is_user, entered, with_field, returned, pushed}
@@ -18,13 +18,15 @@ use Rattle.ds_core.specs.declared.event.Event.{Event}
 use Rattle.ds_core.specs.declared.event.Event.TheVariants.{Retired, Branched, Raised}
 use Rattle.ds_core.specs.Core.{CoreState, Step}
 use Rattle.ds_core.specs.Effect.{step}
-use Rattle.ds_refill.specs.Handler.{address_of}
-use Rattle.ds_refill.specs.Refill.{IsKernel, lent, late_of, at_word, table_miss}
+use Rattle.ds_refill.specs.Handler.{handler_address}
+use Rattle.ds_refill.specs.Refill.{lent, late_of}
+use Rattle.ds_refill.specs.Inner.Refill.{IsKernel, at_word, table_miss}
 use Rattle.ds_refill.proofs.Whole.{word_0, word_1, word_2, word_2_misses, word_3, word_4, word_5, word_6, word_7, word_8}
 use Rattle.ds_tables.specs.Places.{region_of, page_of_table}
-use Rattle.ds_tables.specs.Tables.{word_place}
+use Rattle.ds_tables.specs.Tables.{table_word_place}
 use Rattle.ds_grants.specs.Words.{granted_word}
-use Rattle.ds_grants.specs.Buffer.{lo_of, entry_for}
+use Rattle.ds_grants.specs.Buffer.{lo_of}
+use Rattle.ds_grants.specs.Inner.Buffer.{entry_for}
 use Rattle.ds_grants.proofs.Fields.{user_lo}
 use Rattle.ds_grants.proofs.Fills.{find_written, same_keys, missed_buffer}
 use Rattle.ds_pagemap.specs.Machine.{State, process_of, with_process, touched, touched_process}
@@ -35,7 +37,7 @@ use Rattle.ds_refinement.specs.Handling.{Phase, AtContext, AtAddress, AtLoad, At
 use Rattle.ds_refinement.specs.Stands.{RunningIs, Agrees, CountedBy}
 use Rattle.ds_refinement.specs.Counts.{Counts, counts_of, one_word}
 use Rattle.ds_refinement.specs.Steps as steps
-use Rattle.ds_refinement.specs.Services.{with_step, after_word}
+use Rattle.ds_refinement.specs.Inner.Services.{with_step, after_word}
 use Rattle.ds_refinement.proofs.Fields.{space_in, hi_low, hi_small, context_high, context_low, hi_nested, IsWord, word_is_word}
 use Rattle.ds_refinement.proofs.Loads.{table_hit, table_miss_is, table_below}
 use Rattle.ds_refill.proofs.Lent.{is_at_word, in_0, base_size, base_nought, ticked_low, ticked_high}
@@ -47,8 +49,8 @@ use Rattle.ds_refinement.proofs.Touches.{here, is_touched, touched_handler, stan
 pub kernel : (s : System) → s.status ≡ handler_status → IsKernel s
 kernel s e = record { mode = ap (λ (n : ℕ). bits n 1 1 == 1) e; off = ap (λ (n : ℕ). bits n 0 1) e }
 
-pub in_memory : (frame b : ℕ) → frame < 402 → is_memory (word_place frame b) ≡ true
-in_memory frame b small = let e : word_place frame b < 2 ^ 23 = omega arith in grind (arith, nat_tests)
+pub in_memory : (frame b : ℕ) → frame < 402 → is_memory (table_word_place frame b) ≡ true
+in_memory frame b small = let e : table_word_place frame b < 2 ^ 23 = omega arith in grind (arith, nat_tests)
 
 -- A station that stands for m, whose first ready process is p, which has the processor.
 module _ (h : Held) (m : State) (p : ℕ) (rest : List ℕ) (k : Agrees h m) (ready : h.kept.state.ready ≡ p ∷ rest) where
@@ -80,7 +82,7 @@ module _ (h : Held) (m : State) (p : ℕ) (rest : List ℕ) (k : Agrees h m) (re
   none_in phase z = base_nought h.core.registers z.base z.first z.second z.late z.registers z.whole.nought
 
   wider : (phase : Phase) (z : InHandler phase h.core h.kept p m) (pc next : ℕ) (slot : Bool) (x y : ℕ) (late : Option Late) (system : System) (entries : List Entry) → length entries ≡ 64
-      → IsWhole (at_word pc next slot (lent z.base x y late) system entries (ticked 64 8 h.core.random))
+      → IsWhole (at_word pc next slot (lent z.base x y late) system entries (random_after 64 8 h.core.random))
   wider phase z pc next slot x y late system entries slots = record {
     size = length-set (set z.base.general 26 x) 27 y ∙ (length-set z.base.general 26 x ∙ long phase z);
     nought = in_0 z.base.general x y ∙ none_in phase z;
@@ -99,7 +101,7 @@ module _ (h : Held) (m : State) (p : ℕ) (rest : List ℕ) (k : Agrees h m) (re
   es = h.core.entries
 
   abbrev later : ℕ
-  later = ticked 64 8 h.core.random
+  later = random_after 64 8 h.core.random
 
   at_context : InHandler AtContext h.core h.kept p m → Follows
   at_context z =
@@ -130,7 +132,7 @@ module _ (h : Held) (m : State) (p : ℕ) (rest : List ℕ) (k : Agrees h m) (re
         touch = z.touch;
         lends = (x, refl, refl);
       } in
-      goes false Retired u (ap (λ (n : ℕ). n == address_of 6) z.pc)
+      goes false Retired u (ap (λ (n : ℕ). n == handler_address 6) z.pc)
       (ap (λ (d : CoreState). step d b) is ∙ word_0 z.base x y s es h.core.random b k.vectors (kernel s z.status) (long _ z))
       (same_state h m p rest k ready u k.represented.buffer k.base now.set (in_handler AtAddress u h.kept p m there))
 
@@ -163,7 +165,7 @@ module _ (h : Held) (m : State) (p : ℕ) (rest : List ℕ) (k : Agrees h m) (re
         touch = z.touch;
         lends = (y, z.lends.1, z.epc, refl);
       } in
-      goes false Retired u (ap (λ (n : ℕ). n == address_of 6) z.pc)
+      goes false Retired u (ap (λ (n : ℕ). n == handler_address 6) z.pc)
       (ap (λ (d : CoreState). step d b) is ∙ word_1 z.base x y z.late s es h.core.random b k.vectors (kernel s z.status) (long _ z))
       (same_state h m p rest k ready u k.represented.buffer k.base now.set (in_handler AtLoad u h.kept p m there))
 
@@ -201,7 +203,7 @@ module _ (h : Held) (m : State) (p : ℕ) (rest : List ℕ) (k : Agrees h m) (re
       by (Some slot) found =
           let v : ℕ = z.vpn * 2 ^ 12 in
           let w : ℕ = granted_word h.kept.grants p z.vpn in
-          let place : ℕ = word_place (page_of_table h.kept.tables p (region_of (z.vpn * 2 ^ 12))) (z.vpn * 2 ^ 12) in
+          let place : ℕ = table_word_place (page_of_table h.kept.tables p (region_of (z.vpn * 2 ^ 12))) (z.vpn * 2 ^ 12) in
           let reach : translate es (asid_of s) Kernel Load z.first ≡ Ok (at_physical place) =
           ap₂ (λ (a n : ℕ). translate es a Kernel Load n) space address ∙ table_hit es h.kept.spaces h.kept.grants h.kept.tables p z.vpn slot k.represented.buffer k.represented.places now.seat.0 now.number z.user found in
           let u : CoreState = at_word 0x8000000C 0x80000010 false (lent z.base w z.second (late_of 26 z.first)) s es later in
@@ -227,7 +229,7 @@ module _ (h : Held) (m : State) (p : ℕ) (rest : List ℕ) (k : Agrees h m) (re
             touch = z.touch;
             lends = (z.first, refl, z.lends.2, refl);
           } in
-          goes false Retired u (ap (λ (n : ℕ). n == address_of 6) z.pc)
+          goes false Retired u (ap (λ (n : ℕ). n == handler_address 6) z.pc)
           (ap (λ (d : CoreState). step d b) is ∙ word_2 z.base z.first z.second z.lends.0 s es h.core.random place w b k.vectors (kernel s z.status) (long _ z) small aligned reach (in_memory (page_of_table h.kept.tables p (region_of (z.vpn * 2 ^ 12))) (z.vpn * 2 ^ 12) (table_below h.kept.tables p (region_of (z.vpn * 2 ^ 12)) k.represented.places)) (k.represented.words.words p z.vpn now.seat.0 z.user))
           (same_state h m p rest k ready u k.represented.buffer k.base now.set (in_handler AtPause u h.kept p m there))
       by None found =
@@ -247,7 +249,7 @@ module _ (h : Held) (m : State) (p : ℕ) (rest : List ℕ) (k : Agrees h m) (re
             registers = ap (λ (n : ℕ). lent z.base z.first n None) z.lends.2;
             units = z.units;
           } in
-          goes false (Raised LoadMiss) u (ap (λ (n : ℕ). n == address_of 6) z.pc)
+          goes false (Raised LoadMiss) u (ap (λ (n : ℕ). n == handler_address 6) z.pc)
           (ap (λ (d : CoreState). step d b) is ∙ word_2_misses z.base z.first z.second z.lends.0 s es h.core.random b k.vectors (kernel s z.status) (long _ z) small aligned high reach)
           (same_state h m p rest k ready u k.represented.buffer
           (record { tables = context_high s.context (bits z.first 12 19) ∙ k.base.tables; whole = context_low s.context (bits z.first 12 19) ∙ k.base.whole })
@@ -283,7 +285,7 @@ module _ (h : Held) (m : State) (p : ℕ) (rest : List ℕ) (k : Agrees h m) (re
         touch = z.touch;
         lends = (z.lends.1, z.lends.2, refl);
       } in
-      goes false Retired u (ap (λ (n : ℕ). n == address_of 6) z.pc)
+      goes false Retired u (ap (λ (n : ℕ). n == handler_address 6) z.pc)
       (ap (λ (d : CoreState). step d b) is ∙ word_3 z.base x y z.late s es h.core.random b k.vectors (kernel s z.status))
       (same_state h m p rest k ready u k.represented.buffer k.base now.set (in_handler AtMove u h.kept p m there))
 
@@ -317,7 +319,7 @@ module _ (h : Held) (m : State) (p : ℕ) (rest : List ℕ) (k : Agrees h m) (re
         touch = z.touch;
         lends = (z.lends.1, refl, z.lends.0);
       } in
-      goes false Retired u (ap (λ (n : ℕ). n == address_of 6) z.pc)
+      goes false Retired u (ap (λ (n : ℕ). n == handler_address 6) z.pc)
       (ap (λ (d : CoreState). step d b) is ∙ word_4 z.base x y s es h.core.random b k.vectors (kernel s z.status) (long _ z)
       (subst (λ (n : ℕ). n < 2 ^ 32) (sym z.lends.0) w.small) (ap (λ (n : ℕ). n % 256) z.lends.0 ∙ w.low))
       (same_state h m p rest k ready u k.represented.buffer (record { tables = k.base.tables; whole = k.base.whole }) (record { space = now.set.space; small = now.set.small }) (in_handler AtClear u h.kept p m there))
@@ -351,7 +353,7 @@ module _ (h : Held) (m : State) (p : ℕ) (rest : List ℕ) (k : Agrees h m) (re
         touch = z.touch;
         lends = (refl, z.lends.0, refl, z.lends.2);
       } in
-      goes false Retired u (ap (λ (n : ℕ). n == address_of 6) z.pc)
+      goes false Retired u (ap (λ (n : ℕ). n == handler_address 6) z.pc)
       (ap (λ (d : CoreState). step d b) is ∙ word_5 z.base x y s es h.core.random b k.vectors (kernel s z.status) (none_in _ z))
       (same_state h m p rest k ready u k.represented.buffer k.base now.set (in_handler AtWrite u h.kept p m there))
 
@@ -423,7 +425,7 @@ module _ (h : Held) (m : State) (p : ℕ) (rest : List ℕ) (k : Agrees h m) (re
         touch = z.touch;
         lends = (z.lends.0, z.lends.1, refl);
       } in
-      goes false Branched u (ap (λ (n : ℕ). n == address_of 6) z.pc)
+      goes false Branched u (ap (λ (n : ℕ). n == handler_address 6) z.pc)
       (ap (λ (d : CoreState). step d b) is ∙ word_7 z.base x y s es h.core.random b k.vectors (kernel s z.status) (long _ z))
       (same_state h m p rest k ready u k.represented.buffer k.base now.set (in_handler AtReturn u h.kept p m there))
 
@@ -435,7 +437,7 @@ module _ (h : Held) (m : State) (p : ℕ) (rest : List ℕ) (k : Agrees h m) (re
       let is : h.core ≡ at_word 0x80000020 pc true (lent z.base x y None) s es h.core.random =
       is_at_word h.core 0x80000020 pc true (lent z.base x y None) z.pc z.next z.slot (z.registers ∙ ap (lent z.base x y) z.lends.2) in
       let u : CoreState = at_word pc (word (pc + 4)) false (lent z.base x y None) (returned s) es later in
-      goes false Retired u (ap (λ (n : ℕ). n == address_of 6) z.pc)
+      goes false Retired u (ap (λ (n : ℕ). n == handler_address 6) z.pc)
       (ap (λ (d : CoreState). step d b) is ∙ word_8 z.base x y pc s es h.core.random b k.vectors (kernel s z.status))
       (subst (λ (n : State). Agrees (record h { core = u }) n) (touched_already h m p rest k ready (z.touch refl))
       (touched_state h m p rest k ready u z.base z.owed z.units k.represented.buffer (record { tables = k.base.tables; whole = k.base.whole }) (record { space = now.set.space; small = now.set.small })
@@ -448,7 +450,7 @@ module _ (h : Held) (m : State) (p : ℕ) (rest : List ℕ) (k : Agrees h m) (re
   touching z =
       let after_touch : State = with_process m p (touched_process (process_of m p)) in
       let seat = (runs h m p rest k ready).seat in
-      subst (λ (b : Bool). Agrees (with_step h (step h.core h.bus)) (touched b m)) (sym (ap (λ (n : ℕ). n == address_of 6) z.pc))
+      subst (λ (b : Bool). Agrees (with_step h (step h.core h.bus)) (touched b m)) (sym (ap (λ (n : ℕ). n == handler_address 6) z.pc))
       (as_touched h m p rest k ready (with_step h (step h.core h.bus))
       (at_write h after_touch p rest (stands_after_touch h m p rest k ready user general) ready (touched_handler AtWrite h.core h.kept p m seat z) (is_touched AtWrite h.core h.kept p m seat z)))
 

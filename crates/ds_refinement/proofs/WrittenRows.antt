@@ -3,10 +3,10 @@ use Rattle.std.proofs.Common.{◌≡◌, ◌⊎◌, ℕ, zero, suc, ◌+◌, ◌
 use Rattle.std.specs.Prelude.{slice_get, slice_index_or}
 use Rattle.ds_tlb.specs.declared.entry.Entry.{Entry}
 use Rattle.ds_refinement.specs.Held.{Held, Own}
-use Rattle.ds_refinement.specs.Services.{with_table_page}
+use Rattle.ds_refinement.specs.Inner.Services.{with_table_page}
 use Rattle.ds_refinement.specs.Real.{GoesBack}
-use Rattle.ds_refinement.specs.StationRows.{doubled, page, other, table_page}
-use Rattle.ds_refinement.specs.Written.{HasWritten, KeepsSlot, KeepsWritten}
+use Rattle.ds_refinement.specs.Rows.StationRows.{doubled, page, other, table_page}
+use Rattle.ds_refinement.specs.Inner.Written.{HasWritten, KeepsSlot, KeepsWritten}
 use Rattle.ds_refinement.proofs.Staying.{never_now}
 
 -- two refills wrote slots 20 and 8, the last first; two double misses wrote slots 7 and 0, so it is slot 1's turn

@@ -9,35 +9,31 @@ pub data Ask : Type 0 where
   Access : Ask
 
 -- the pages of these, and the page of its data once the process is touched
-pub record Pages : Type 0 where
+pub record UnitPages : Type 0 where
   pub fetch : ℕ
   pub slot : ℕ
   pub access : ℕ
   pub touched : ℕ
 
 -- the page that is asked for
-abbrev pub asked : Pages → Ask → ℕ
+abbrev pub asked : UnitPages → Ask → ℕ
 asked pages Fetch = pages.fetch
 asked pages Slot = pages.slot
 asked pages Access = pages.access
 
--- the pages after a touch
-abbrev pub after_touch : Pages → Pages
-after_touch pages = record pages { access = pages.touched }
-
 -- where the processor is: before the unit's first instruction, before the one in its slot, before a word of the refill handler, or in the
 -- monitor after a double miss, after a store to a page that may not be written, after any other exception
-pub data Place : Type 0 where
-  Begun : Place
-  InItsSlot : Place
-  AtWord : (word : ℕ) → Place
-  AtDoubleMiss : Place
-  AtModification : Place
-  AtService : Place
+pub data UnitPlace : Type 0 where
+  Begun : UnitPlace
+  InItsSlot : UnitPlace
+  AtWord : (word : ℕ) → UnitPlace
+  AtDoubleMiss : UnitPlace
+  AtModification : UnitPlace
+  AtService : UnitPlace
 
 -- what of the machine the course of a unit depends on, and the unit's counts
 pub record Work : Type 0 where
-  pub pages : Pages
+  pub pages : UnitPages
   -- whether a page may be written
   pub dirty : ℕ → Bool
   pub entries : List Entry
@@ -57,6 +53,6 @@ pub record Work : Type 0 where
 
 -- a unit under way; the page is that of EntryHi
 pub record Course : Type 0 where
-  pub place : Place
+  pub place : UnitPlace
   pub page : ℕ
   pub work : Work

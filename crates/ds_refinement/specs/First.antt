@@ -13,9 +13,9 @@ use Rattle.ds_core.specs.Core.{CoreState}
 use Rattle.ds_policy.specs.Value.{PolicyValue, InputValue}
 use Rattle.ds_refill.specs.Handler as handler
 use Rattle.ds_tables.specs.Places.{Places}
-use Rattle.ds_asid.specs.Spaces.{at_start, taken}
+use Rattle.ds_asid.specs.Spaces.{at_start, space_taken}
 use Rattle.ds_grants.specs.State.{page_state}
-use Rattle.ds_grants.specs.Represented.{HasWords}
+use Rattle.ds_grants.specs.Represented.{TablesHaveWords}
 use Rattle.ds_grants.specs.First.{first_grants}
 use Rattle.ds_pagemap.specs.Machine.{process_of}
 use Rattle.ds_pagemap.specs.First.{first_state}
@@ -55,7 +55,7 @@ first_kept policy images input tables ends = record {
   tables = tables;
   log = [];
   lines = 0;
-  spaces = taken at_start 1;
+  spaces = space_taken at_start 1;
   ticked = 0;
   ends = ends;
 }
@@ -67,6 +67,6 @@ pub record IsFirst (policy : PolicyValue) (images : List (List ℕ)) (input : In
   pub pages : (first_state policy images input).memory ≡ page_state (first_grants policy) h.bus.memory
   pub size : length h.bus.memory ≡ 2 ^ 23
   pub kept : h.kept ≡ first_kept policy images input h.kept.tables h.kept.ends
-  pub tables : HasWords h.bus.memory h.kept.tables (first_grants policy)
+  pub tables : TablesHaveWords h.bus.memory h.kept.tables (first_grants policy)
   pub vectors : handler.HasWords h.bus.memory
   pub own : h.own ≡ record { failed = false; spent = 0; written = []; since = 0; wired = 0; tables = 0; services = 0 }

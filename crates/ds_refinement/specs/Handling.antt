@@ -6,10 +6,8 @@ use Rattle.ds_isa.specs.declared.instr.Late.{Late}
 use Rattle.ds_isa.specs.Registers.{Registers, settled}
 use Rattle.ds_tlb.specs.declared.entry.Entry.{Entry}
 use Rattle.ds_tlb.specs.Entries.{find}
-use Rattle.ds_cp0.specs.declared.exception.Exception.{Exception}
-use Rattle.ds_cp0.specs.Codes.{is_translation}
-use Rattle.ds_cp0.specs.System.{System, asid_of, pushed}
-use Rattle.ds_refill.specs.Handler.{address_of}
+use Rattle.ds_cp0.specs.System.{System, pushed}
+use Rattle.ds_refill.specs.Handler.{handler_address}
 use Rattle.ds_refill.specs.Refill.{lent, late_of}
 use Rattle.ds_grants.specs.Buffer.{hi_of}
 use Rattle.ds_grants.specs.Words.{granted_word}
@@ -107,10 +105,10 @@ Lends AtJump a l = (l.first ≡ 0) × (l.second ≡ a.unit) × (l.late ≡ None)
 Lends AtReturn a l = (l.first ≡ 0) × (l.second ≡ a.unit) × (l.late ≡ None)
 
 -- up to the seventh word nothing in the TLB answers for the page, and then one slot does
-abbrev pub Answers : Phase → List Entry → ℕ → ℕ → Type 0
-Answers AtJump entries vpn asid = (slot : ℕ) × (find entries vpn asid ≡ Some slot)
-Answers AtReturn entries vpn asid = (slot : ℕ) × (find entries vpn asid ≡ Some slot)
-Answers other entries vpn asid = find entries vpn asid ≡ None
+abbrev pub BufferAnswers : Phase → List Entry → ℕ → ℕ → Type 0
+BufferAnswers AtJump entries vpn asid = (slot : ℕ) × (find entries vpn asid ≡ Some slot)
+BufferAnswers AtReturn entries vpn asid = (slot : ℕ) × (find entries vpn asid ≡ Some slot)
+BufferAnswers other entries vpn asid = find entries vpn asid ≡ None
 
 -- after the seventh word the process is touched
 abbrev pub has_touched : Phase → Bool
@@ -120,7 +118,7 @@ has_touched other = false
 
 -- the seventh word is next: with it, and with no other, the machine is touched
 abbrev pub touches : CoreState → Bool
-touches c = c.pc == address_of 6
+touches c = c.pc == handler_address 6
 
 -- the registers of the unit so far: the process's with its late load finished, or after its branch
 abbrev pub AreUnits : Registers → ℕ → State → Type 0
@@ -138,7 +136,7 @@ pub record IsWhole (c : CoreState) : Type 0 where
 pub record InHandler (phase : Phase) (c : CoreState) (k : Kept) (p : ℕ) (m : State) : Type 0 where
   pub whole : IsWhole c
   pub owed : m.owed ≡ None
-  pub pc : c.pc ≡ address_of (index_of phase)
+  pub pc : c.pc ≡ handler_address (index_of phase)
   pub next : c.next ≡ next_of phase (process_of m p).pc c.pc
   pub slot : c.slot ≡ in_slot phase
   pub status : c.system.status ≡ handler_status
@@ -148,7 +146,7 @@ pub record InHandler (phase : Phase) (c : CoreState) (k : Kept) (p : ℕ) (m : S
   pub user : vpn < 2 ^ 19
   pub hi : c.system.entry_hi ≡ hi_of vpn (space_of k p)
   pub context : c.system.context ≡ 0xC0000000 + 4 * vpn
-  pub answers : Answers phase c.entries vpn (space_of k p)
+  pub answers : BufferAnswers phase c.entries vpn (space_of k p)
   -- the unit's registers, and what of them is lent
   pub base : Registers
   pub first : ℕ
@@ -175,12 +173,3 @@ pub record InDouble (c : CoreState) (k : Kept) (p : ℕ) (m : State) : Type 0 wh
   pub first : ℕ
   pub registers : c.registers ≡ lent base first (process_of m p).pc None
   pub units : AreUnits base p m
-
--- the exception is the miss of a user's page, for which nothing in the TLB answers
-pub record IsMiss (c : CoreState) (e : Exception) : Type 0 where
-  pub address : ℕ
-  pub user : address < 2 ^ 31
-  pub is : e.addr ≡ Some address
-  pub code : is_translation e.code ≡ true
-  pub miss : e.miss ≡ true
-  pub missed : find c.entries (address / 2 ^ 12) (asid_of c.system) ≡ None

@@ -1,10 +1,9 @@
 -- What a station holds: the processor, the bus with memory and devices, and what it keeps beside them.
 use Rattle.std.specs.Prelude.{ℕ, Bool, List, [], ◌∷◌, Option, Some, None}
 use Rattle.ds_policy.specs.Grants.{PageState}
-use Rattle.ds_log.specs.declared.line.Line.{Line}
 use Rattle.ds_tables.specs.Places.{Places}
-use Rattle.ds_asid.specs.Spaces.{Spaces, number_of}
-use Rattle.ds_grants.specs.State.{GrantsState, page_state}
+use Rattle.ds_asid.specs.Spaces.{Spaces, space_number}
+use Rattle.ds_grants.specs.State.{GrantsState}
 use Rattle.ds_dev.specs.Bus.{BusState}
 use Rattle.ds_core.specs.Core.{CoreState}
 use Rattle.ds_pagemap.specs.declared.turn.Turn.{Turn}
@@ -59,10 +58,6 @@ no_memory = record { pages = []; table = []; named = 0 }
 abbrev pub bare : State → State
 bare m = record (all_settled m) { memory = no_memory; log = [] }
 
--- the whole state of what is kept, with the pages that lie in a memory and with these lines in its log
-abbrev pub whole : Kept → List ℕ → List Line → State
-whole k memory log = record k.state { memory = page_state k.grants memory; log = log }
-
 -- the state without the process that runs: its saved registers are meaningless
 abbrev pub vacated : List ℕ → State → State
 vacated [] m = m
@@ -70,7 +65,7 @@ vacated (p ∷ rest) m = with_process m p no_process
 
 -- the number of a process's address space, or 0 where it has none
 abbrev pub space_of : Kept → ℕ → ℕ
-space_of k p = number_of k.spaces p
+space_of k p = space_number k.spaces p
 
 -- the time at which a turn began that still owes its boundary, or else this time
 abbrev pub began_or : Option Turn → ℕ → ℕ

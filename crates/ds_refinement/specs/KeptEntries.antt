@@ -3,8 +3,8 @@ use Rattle.std.specs.Prelude.{◌≡◌, ℕ, ◌+◌, ◌-◌, ◌<◌, ◌≤�
 use Rattle.ds_tlb.specs.declared.entry.Entry.{Entry}
 
 -- how many steps ago Random stood at a slot
-abbrev pub behind : ℕ → ℕ → ℕ
-behind slot random = if nat_le random slot then slot - random else slot + 56 - random
+abbrev pub steps_since : ℕ → ℕ → ℕ
+steps_since slot random = if nat_le random slot then slot - random else slot + 56 - random
 
 -- a page's entry stands in a slot at which Random stood within the last n steps
 pub record IsKept (entries : List Entry) (random n vpn asid : ℕ) : Type 0 where
@@ -15,5 +15,5 @@ pub record IsKept (entries : List Entry) (random n vpn asid : ℕ) : Type 0 wher
   pub space : entry.asid ≡ asid
   pub low : 8 ≤ slot
   pub high : slot < 64
-  pub since : 1 ≤ behind slot random
-  pub few : behind slot random ≤ n
+  pub since : 1 ≤ steps_since slot random
+  pub few : steps_since slot random ≤ n

@@ -11,16 +11,16 @@ use Rattle.ds_policy.specs.declared.access.Verdict.TheVariants.{Allowed, Denied}
 use Rattle.ds_policy.specs.Pages.{decide, bytes_of}
 use Rattle.ds_pagemap.specs.Machine.{State, process_of, touched}
 use Rattle.ds_pagemap.specs.Unit.{Outcome, Went, Branched, Called, Stopped, instruction}
-use Rattle.ds_refinement.specs.Course.{Pages}
+use Rattle.ds_refinement.specs.Course.{UnitPages}
 
 -- the page of an address
-abbrev pub page_of : ℕ → ℕ
-page_of address = address / 2 ^ 12
+abbrev pub page_of_address : ℕ → ℕ
+page_of_address address = address / 2 ^ 12
 
 -- the page of an effect's access
 abbrev pub asked_by : Effect → Option ℕ
-asked_by (Loads size address after) = Some (page_of address)
-asked_by (Stores size address after) = Some (page_of address)
+asked_by (Loads size address after) = Some (page_of_address address)
+asked_by (Stores size address after) = Some (page_of_address address)
 asked_by (Goes after) = None
 asked_by (Branches after target) = None
 asked_by (Faults code) = None
@@ -48,10 +48,10 @@ abbrev pub data_page : State → ℕ → Option ℕ
 data_page m p = let pc = (process_of m p).pc in asked_after m p pc (instruction m p pc)
 
 -- the pages of the unit that begins in m; page 0 where it has no data
-abbrev pub pages_of : State → ℕ → Pages
-pages_of m p = record {
-  fetch = page_of (process_of m p).pc;
-  slot = page_of (word ((process_of m p).pc + 4));
+abbrev pub pages_of_unit : State → ℕ → UnitPages
+pages_of_unit m p = record {
+  fetch = page_of_address (process_of m p).pc;
+  slot = page_of_address (word ((process_of m p).pc + 4));
   access = unwrap_or (data_page m p) 0;
   touched = unwrap_or (data_page (touched true m) p) 0;
 }

@@ -1,5 +1,5 @@
 -- Which steps of the station are steps of the processor.
-use Rattle.std.specs.Prelude.{◌≡◌, ◌≢◌, ◌⊎◌, ⊤, ℕ, ◌/◌, ◌^◌, true, false, if◌then◌else◌, List, [], ◌∷◌, slice_index, slice_set, Some, None, IsSome}
+use Rattle.std.specs.Prelude.{◌≡◌, ◌≢◌, ◌⊎◌, ℕ, ◌/◌, ◌^◌, true, false, if◌then◌else◌, List, [], ◌∷◌, slice_index, slice_set, Some, None, IsSome}
 use Rattle.ds_tlb.specs.Entries.{find}
 use Rattle.ds_tlb.specs.Words.{entry_of}
 use Rattle.ds_cp0.specs.System.{asid_of, is_user}
@@ -8,9 +8,7 @@ use Rattle.ds_policy.specs.Pages.{decide}
 use Rattle.ds_policy.specs.Grants.{PageState}
 use Rattle.ds_grants.specs.State.{page_state}
 use Rattle.ds_grants.specs.Copies.{AreRewritten}
-use Rattle.ds_cp0.specs.declared.exception.ExceptionCode.TheVariants.{FetchBus, DataBus}
 use Rattle.ds_core.specs.declared.event.Event.{Event}
-use Rattle.ds_core.specs.declared.event.Event.TheVariants.{Raised}
 use Rattle.ds_core.specs.Core.{CoreState}
 use Rattle.ds_core.specs.Effect.{step}
 use Rattle.ds_refinement.specs.declared.cause.Cause.{Cause}
@@ -34,9 +32,9 @@ MayGoBack s p bad (cause.Fault code) = ⊥
 MayGoBack s p bad cause.Call = ⊥
 
 -- what the coprocessor tells ends the unit of whoever is first
-abbrev pub StopsBy : List ℕ → Held → Type 0
-StopsBy [] h = ⊥
-StopsBy (p ∷ rest) h =
+abbrev pub EndsFirstUnit : List ℕ → Held → Type 0
+EndsFirstUnit [] h = ⊥
+EndsFirstUnit (p ∷ rest) h =
     let s : PageState = page_state h.kept.grants h.bus.memory in
     EndsUnit s p h.core.system.bad_vaddr (told h.core.system s p)
 
@@ -66,10 +64,10 @@ pub record GoesBack (old new : Held) : Type 0 where
   pub rewritten : has_left_user old.core ≡ true → AreRewritten old.core.entries new.core.entries
 
 -- The unit ends: the exception came from user mode, and what was told ends it.
-pub record EndsReally (old new : Held) : Type 0 where
+pub record EndsUnitReally (old new : Held) : Type 0 where
   pub owed : IsSome new.kept.state.owed
   pub left : has_left_user old.core ≡ true
-  pub stops : StopsBy old.kept.state.ready old
+  pub stops : EndsFirstUnit old.kept.state.ready old
 
 -- It goes on: after a double miss, or where what was told lets it.
 pub record GoesOnReally (old new : Held) : Type 0 where
@@ -82,15 +80,9 @@ pub record IsReal (old new : Held) : Type 0 where
   pub instruction : HasUnit old → is_served old.core ≡ false
       → (event : Event) × (step old.core old.bus ≡ (record { event = event; core = new.core; bus = new.bus }))
   pub service : HasUnit old → is_served old.core ≡ true
-      → EndsReally old new ⊎ GoesOnReally old new
+      → EndsUnitReally old new ⊎ GoesOnReally old new
   pub random : (HasUnit old → is_served old.core ≡ true) → new.core.random ≡ old.core.random
   pub pairs : (HasUnit old → is_served old.core ≡ true) → HasNoNewPairs old.core.entries new.core.entries
-
--- an event that tells no bus error
-abbrev pub IsNoBusError : Event → Type 0
-IsNoBusError (Raised FetchBus) = ⊥
-IsNoBusError (Raised DataBus) = ⊥
-IsNoBusError other = ⊤
 
 -- by these steps, the newest first, each of which is real and is followed by the machine with its counts
 abbrev pub Through : Held → List Held → Held → Type 0

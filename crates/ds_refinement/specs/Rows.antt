@@ -1,4 +1,8 @@
 -- What is told of accesses of a small processor: each row is a theorem about the definitions alone.
+pub mod BoundRows
+pub mod CourseRows
+pub mod HandlerRows
+pub mod StationRows
 use Rattle.std.specs.Prelude.{◌≡◌, ℕ, ◌+◌, Bool, true, false, [], ◌∷◌, Ok, Err, refl}
 use Rattle.ds_word.specs.Word.{word}
 use Rattle.ds_isa.specs.declared.instr.Size.TheVariants.{Byte, Half, Word}
@@ -13,7 +17,8 @@ use Rattle.ds_amap.specs.Map.{at_physical}
 use Rattle.ds_cp0.specs.System.{System, at_start}
 use Rattle.ds_core.specs.Core.{CoreState}
 use Rattle.ds_core.specs.Access.{reached}
-use Rattle.ds_refinement.specs.Told.{system_behind, code_in, is_delayed, own_in, kind_told, size_told}
+use Rattle.ds_refinement.specs.Told.{code_in, is_delayed, own_in, kind_told, size_told}
+use Rattle.ds_refinement.specs.Inner.Told.{system_after}
 
 -- the page of the program at 00400000, frame 402, which may not be written, in address space 1
 abbrev page : Entry
@@ -56,7 +61,7 @@ a_load_misses = refl
 
 -- after it
 abbrev missed : System
-missed = system_behind outside Load 0x00401002 Refill
+missed = system_after outside Load 0x00401002 Refill
 
 pub the_missed_load_has_code_2 : code_in missed ≡ 2
 the_missed_load_has_code_2 = refl
@@ -74,7 +79,7 @@ a_load_is_not_aligned = refl
 
 -- after it
 abbrev misaligned : System
-misaligned = system_behind in_slot Load 0x00401001 Address
+misaligned = system_after in_slot Load 0x00401001 Address
 
 pub epc_names_the_branch : misaligned.epc ≡ 0x00400000
 epc_names_the_branch = refl
@@ -104,7 +109,7 @@ a_load_is_of_the_kernel = refl
 
 -- after it
 abbrev beyond : System
-beyond = system_behind outside Load 0x80000001 Address
+beyond = system_after outside Load 0x80000001 Address
 
 -- rule K, since every address suits a byte; a word there would break rule A
 pub a_byte_of_the_kernel_breaks_rule_k : decide [] 1 (kind_told beyond) (size_told beyond Byte) 0x80000001 ≡ Denied K 4
@@ -117,7 +122,7 @@ a_store_is_modified = refl
 
 -- after it
 abbrev modified : System
-modified = system_behind outside Store outside.pc Modified
+modified = system_after outside Store outside.pc Modified
 
 pub the_modified_store_has_code_1 : code_in modified ≡ 1
 the_modified_store_has_code_1 = refl
@@ -133,7 +138,7 @@ the_modified_store_is_a_store = refl
 pub a_store_misses : reached outside Store Word 0x00401000 ≡ Err Refill
 a_store_misses = refl
 
-pub the_missed_store_has_code_3 : code_in (system_behind outside Store 0x00401000 Refill) ≡ 3
+pub the_missed_store_has_code_3 : code_in (system_after outside Store 0x00401000 Refill) ≡ 3
 the_missed_store_has_code_3 = refl
 
 pub a_store_is_invalid : reached outside Store Word 0x00402000 ≡ Err Invalid
@@ -144,7 +149,7 @@ a_store_is_not_aligned = refl
 
 -- after it
 abbrev misplaced : System
-misplaced = system_behind outside Store 0x00401002 Address
+misplaced = system_after outside Store 0x00401002 Address
 
 pub the_misplaced_store_has_code_5 : code_in misplaced ≡ 5
 the_misplaced_store_has_code_5 = refl
@@ -163,7 +168,7 @@ a_slot_misses = refl
 
 -- after it
 abbrev missed_slot : System
-missed_slot = system_behind at_page_end Fetch at_page_end.pc Refill
+missed_slot = system_after at_page_end Fetch at_page_end.pc Refill
 
 pub the_missed_slot_is_a_fetch : kind_told missed_slot ≡ Fetch
 the_missed_slot_is_a_fetch = refl
@@ -179,7 +184,7 @@ the_kernel_is_not_fetched = refl
 
 -- after it
 abbrev barred : System
-barred = system_behind astray Fetch astray.pc Address
+barred = system_after astray Fetch astray.pc Address
 
 pub the_barred_fetch_is_a_fetch : kind_told barred ≡ Fetch
 the_barred_fetch_is_a_fetch = refl
@@ -188,5 +193,5 @@ pub the_barred_fetch_is_asked_for_as_a_word : size_told barred Byte ≡ Word
 the_barred_fetch_is_asked_for_as_a_word = refl
 
 -- a slot at 0 belongs to a branch at the last word of the address space
-pub a_slot_at_0_is_told : own_in (system_behind (user_at 0 true) Fetch 0 Refill) ≡ 0
+pub a_slot_at_0_is_told : own_in (system_after (user_at 0 true) Fetch 0 Refill) ≡ 0
 a_slot_at_0_is_told = refl

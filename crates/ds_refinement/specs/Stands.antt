@@ -15,7 +15,7 @@ use Rattle.ds_pagemap.specs.Boundary.{has_passed}
 use Rattle.ds_refinement.specs.Tally.{IsTallied}
 use Rattle.ds_refinement.specs.Held.{Held, Kept, Own, bare, vacated, space_of, last_boundary}
 use Rattle.ds_refinement.specs.Units.{user_status, AtStart, InSlot, InService, is_general, has_left_user}
-use Rattle.ds_refinement.specs.Needs.{pages_of}
+use Rattle.ds_refinement.specs.Needs.{pages_of_unit}
 use Rattle.ds_refinement.specs.Counts.{counts_of, course_of, may_write, HasNone, HasRanges}
 use Rattle.ds_refinement.specs.Handling.{HasBase, IsSet, Phase, InHandler, InDouble}
 use Rattle.ds_refinement.specs.Copying.{InCopy}
@@ -86,21 +86,9 @@ pub record IsUnbegun (c : CoreState) (p : ℕ) (m : State) : Type 0 where
 -- ready nothing is counted, and the buffer has its ranges
 abbrev pub CountedBy : List ℕ → CoreState → Own → Kept → State → Type 0
 CountedBy [] c own k m = HasNone own × HasRanges c (counts_of own)
-CountedBy (p ∷ rest) c own k m = IsTallied (course_of c (counts_of own) (may_write k p) (pages_of m p)) × (own.spent ≡ 0 → IsUnbegun c p m)
+CountedBy (p ∷ rest) c own k m = IsTallied (course_of c (counts_of own) (may_write k p) (pages_of_unit m p)) × (own.spent ≡ 0 → IsUnbegun c p m)
 
 -- the station stands for the machine state m
 pub record Stands (h : Held) (m : State) : Type 0 where
   pub agrees : Agrees h m
   pub counted : CountedBy h.kept.state.ready h.core h.own h.kept m
-
--- there is a machine state that the station stands for
-pub record IsSound (h : Held) : Type 0 where
-  pub state : State
-  pub stands : Stands h state
-
--- nobody is on the processor: all is kept
-pub record IsKept (k : Kept) (memory : List ℕ) (m : State) : Type 0 where
-  pub state : bare m ≡ k.state
-  pub pages : m.memory ≡ page_state k.grants memory
-  pub log : flat_map line_text m.log ≡ k.log
-  pub lines : length m.log ≡ k.lines

@@ -9,12 +9,12 @@ use Rattle.ds_refinement.specs.declared.step.Step.TheVariants.{Inside, Unit, Bou
 use Rattle.ds_refinement.specs.Held.{Held}
 use Rattle.ds_refinement.specs.Units.{has_left_user, is_served}
 use Rattle.ds_refinement.specs.Handling.{touches}
-use Rattle.ds_refinement.specs.Counts.{Counts, counts_of, fresh, one_more, one_served, one_word}
+use Rattle.ds_refinement.specs.Counts.{Counts, counts_of, fresh_counts, one_more, one_served, one_word}
 use Rattle.ds_refinement.specs.Stands.{Stands}
 
 -- half a turn, with a touch before and after or without
 abbrev pub HalfTo : State → State → Type 0
-HalfTo m t = (before : Bool) × (behind : Bool) × (t ≡ touched behind (half_turn before m))
+HalfTo m t = (before : Bool) × (afterwards : Bool) × (t ≡ touched afterwards (half_turn before m))
 
 -- What a step of this kind may make of a machine state: a part of a unit and its end come only where somebody is ready, and an idle turn only while somebody has not ended.
 abbrev pub StepTo : Step → State → State → Type 0
@@ -31,10 +31,6 @@ Comes step new m = (t : State) × StepTo step m t × Stands new t
 -- for each machine state that the station stood for, it stands for one that follows by such a step
 pub record Follows (step : Step) (old new : Held) : Type 0 where
   pub follows : (m : State) → Stands old m → Comes step new m
-
--- each machine state that the station stood for, it still stands for
-pub record Stays (old new : Held) : Type 0 where
-  pub stays : (m : State) → Stands old m → Stands new m
 
 -- the ticks of a unit, by whether its last instruction stood in a slot
 abbrev pub ticks_of : Bool → ℕ
@@ -57,8 +53,8 @@ Moves Inside old new = (old.kept.state.owed ≡ None) × (new.kept.state.owed �
     × (new.own.spent ≡ old.own.spent + truth (not (is_served old.core))) × (new.own.spent ≤ 64) × (steps_left new < steps_left old) × (new.own.failed ≡ old.own.failed)
     × (counts_of new.own ≡ counts_after old)
 Moves Unit old new = (old.kept.state.owed ≡ None) × IsSome new.kept.state.owed × (new.kept.state.time ≡ old.kept.state.time + ticks_of old.core.slot)
-    × (new.own.spent ≡ 0) × (new.own.failed ≡ old.own.failed) × (counts_of new.own ≡ fresh old.own.wired)
+    × (new.own.spent ≡ 0) × (new.own.failed ≡ old.own.failed) × (counts_of new.own ≡ fresh_counts old.own.wired)
 Moves Boundary old new = (new.kept.state.owed ≡ None) × (new.own.spent ≡ 0)
     × (new.kept.state.time ≡ old.kept.state.time + truth (not (is_some old.kept.state.owed))) × (new.own.failed ≡ old.own.failed)
-    × (counts_of new.own ≡ fresh old.own.wired)
+    × (counts_of new.own ≡ fresh_counts old.own.wired)
 Moves Over old new = new ≡ old

@@ -1,10 +1,10 @@
 -- How far a unit is, what of it is in the buffer, and how few its counts are.
-use Rattle.std.specs.Prelude.{◌≡◌, ◌⊎◌, ℕ, ◌+◌, ◌-◌, ◌*◌, ◌<◌, ◌≤◌, Contains, nat_lt, if◌then◌else◌, Bool, true, false, List, [], ◌∷◌, length, slice_get, Some}
+use Rattle.std.specs.Prelude.{◌≡◌, ◌⊎◌, ℕ, ◌+◌, ◌-◌, ◌<◌, ◌≤◌, nat_lt, if◌then◌else◌, Bool, true, false, List, [], ◌∷◌, length, slice_get, Some}
 use Rattle.ds_word.specs.Word.{truth}
 use Rattle.ds_tlb.specs.declared.entry.Entry.{Entry}
-use Rattle.ds_refinement.specs.KeptEntries.{behind, IsKept}
+use Rattle.ds_refinement.specs.KeptEntries.{steps_since, IsKept}
 use Rattle.ds_refinement.specs.Cost.{Met, cost}
-use Rattle.ds_refinement.specs.Course.{Ask, Fetch, Slot, Access, asked, Place, Begun, InItsSlot, AtWord, AtDoubleMiss, AtModification, AtService, Work, Course}
+use Rattle.ds_refinement.specs.Course.{Ask, Fetch, Slot, Access, asked, UnitPlace, Begun, InItsSlot, AtWord, AtDoubleMiss, AtModification, AtService, Work, Course}
 use Rattle.ds_refinement.specs.CourseSteps.{table_page}
 
 -- whether the page of an ask was refilled
@@ -53,8 +53,8 @@ pub record IsTableKept (entries : List Entry) (wired n page asid : ℕ) : Type 0
 pub record Stood (slot random n : ℕ) : Type 0 where
   pub low : 8 ≤ slot
   pub high : slot < 64
-  pub since : 1 ≤ behind slot random
-  pub few : behind slot random ≤ n
+  pub since : 1 ≤ steps_since slot random
+  pub few : steps_since slot random ≤ n
 
 -- at each of them
 abbrev pub AllStood : List ℕ → ℕ → ℕ → Type 0
@@ -107,41 +107,16 @@ pub record IsModified (page : ℕ) (w : Work) (met : Met) : Type 0 where
   pub few : w.spent ≤ cost met + 2
 
 -- how many instructions there are at most, by where the processor is
-abbrev pub IsAt : Place → ℕ → Work → Met → Type 0
-IsAt Begun page w met = w.spent ≤ cost met
-IsAt InItsSlot page w met = w.spent ≤ cost met + 1
-IsAt (AtWord word) page w met = ((word ≤ 6) × IsRefilling word page w met) ⊎ ((7 ≤ word) × (word ≤ 8) × (w.spent + 9 ≤ cost met + word))
-IsAt AtDoubleMiss page w met = IsTabling page w met
-IsAt AtModification page w met = IsModified page w met
-IsAt AtService page w met = w.spent ≤ cost met + 2
+abbrev pub IsSpentAt : UnitPlace → ℕ → Work → Met → Type 0
+IsSpentAt Begun page w met = w.spent ≤ cost met
+IsSpentAt InItsSlot page w met = w.spent ≤ cost met + 1
+IsSpentAt (AtWord word) page w met = ((word ≤ 6) × IsRefilling word page w met) ⊎ ((7 ≤ word) × (word ≤ 8) × (w.spent + 9 ≤ cost met + word))
+IsSpentAt AtDoubleMiss page w met = IsTabling page w met
+IsSpentAt AtModification page w met = IsModified page w met
+IsSpentAt AtService page w met = w.spent ≤ cost met + 2
 
 -- a unit under way is tallied: its invariant
 pub record IsTallied (c : Course) : Type 0 where
   pub met : Met
   pub tally : Tally c.work met
-  pub at : IsAt c.place c.page c.work met
-
--- the counts are few
-pub record IsShort (w : Work) : Type 0 where
-  pub spent : w.spent ≤ 61
-  pub written : length w.written ≤ 4
-  pub since : w.since ≤ 54
-  pub tables : w.tables ≤ 4
-  pub services : w.services ≤ 6
-
--- a slot that the unit has written, by a refill or for a page table's page
-abbrev pub WasWritten : Work → ℕ → Type 0
-WasWritten w slot = Contains w.written slot ⊎ ((slot < 8) × (turns slot w.wired ≤ w.tables))
-
--- whether the monitor is to serve
-abbrev pub is_serving : Place → Bool
-is_serving Begun = false
-is_serving InItsSlot = false
-is_serving (AtWord word) = false
-is_serving AtDoubleMiss = true
-is_serving AtModification = true
-is_serving AtService = true
-
--- how many steps a unit may still take
-abbrev pub steps_ahead : Course → ℕ
-steps_ahead c = 2 * (64 - c.work.spent) + truth (is_serving c.place)
+  pub at : IsSpentAt c.place c.page c.work met

@@ -5,10 +5,7 @@ use Rattle.ds_isa.specs.declared.instr.Size.{Size}
 use Rattle.ds_isa.specs.declared.instr.Size.TheVariants.{Byte, Word}
 use Rattle.ds_isa.specs.declared.instr.Kind.{Kind}
 use Rattle.ds_isa.specs.declared.instr.Kind.TheVariants.{Fetch, Load, Store}
-use Rattle.ds_amap.specs.declared.map.Fault.{Fault}
-use Rattle.ds_cp0.specs.System.{System, entered}
-use Rattle.ds_core.specs.Core.{CoreState}
-use Rattle.ds_core.specs.Access.{refusal}
+use Rattle.ds_cp0.specs.System.{System}
 use Rattle.ds_word.specs.Bytes.{word_at}
 use Rattle.ds_isa.specs.Access.{access_size}
 use Rattle.ds_isa.specs.Instruction.{instruction_of}
@@ -18,10 +15,6 @@ use Rattle.ds_policy.specs.Pages.{Pages, decide, bytes_of}
 use Rattle.ds_policy.specs.Grants.{PageState}
 use Rattle.ds_refinement.specs.declared.cause.Cause.{Cause}
 use Rattle.ds_refinement.specs.declared.cause.Cause.TheVariants as cause
-
--- the registers after an access that the address map refused
-abbrev pub system_behind : CoreState → Kind → ℕ → Fault → System
-system_behind c access address fault = entered c.system (refusal c access address fault)
 
 -- the exception's code, in Cause
 abbrev pub code_in : System → ℕ

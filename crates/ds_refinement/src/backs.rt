@@ -14,11 +14,11 @@ ghost use Rattle.ds_refinement.specs.declared.cause.Cause.TheVariants as cause;
 ghost use Rattle.ds_refinement.specs.declared.step.Step.TheVariants.{Inside};
 ghost use Rattle.ds_refinement.specs.Held.{Held};
 ghost use Rattle.ds_refinement.specs.Units.{has_left_user, is_served};
-ghost use Rattle.ds_refinement.specs.Stands.{IsSound};
+ghost use Rattle.ds_refinement.specs.Inner.Stands.{IsSound};
 ghost use Rattle.ds_refinement.specs.Steps.{Follows};
 ghost use Rattle.ds_refinement.specs.Told.{told};
 ghost use Rattle.ds_refinement.specs.Copying.{AwaitsCopy};
-ghost use Rattle.ds_refinement.specs.Services.{IsCopied, with_table_page};
+ghost use Rattle.ds_refinement.specs.Inner.Services.{IsCopied, with_table_page};
 ghost use Rattle.ds_refinement.specs.Real.{GoesBack};
 
 /// After a double miss EntryHi names a page of a process's page table. Its entry is put into the

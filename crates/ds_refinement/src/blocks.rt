@@ -3,29 +3,15 @@
 ghost use Rattle.std.specs.Prelude.{◌≡◌, ◌≤◌, ◌+◌, ℕ, true, None, Some};
 ghost use Rattle.ds_cp0.specs.System.{is_user};
 ghost use Rattle.ds_cp0.specs.declared.exception.ExceptionCode.{ExceptionCode};
-ghost use Rattle.ds_ahead.specs.Ahead.{
-  Hardware,
-  hardware_of,
-  Advances,
-  AdvancesTo,
-  ComesByWords,
-  ticks,
-  owed_tick,
-};
+ghost use Rattle.ds_ahead.specs.Inner.Ahead.{Hardware, hardware_of, Advances, AdvancesTo, ComesByWords, ticks, owed_tick};
 ghost use Rattle.ds_refinement.specs.Told.{is_delayed};
 ghost use Rattle.ds_refinement.specs.Held.{Held, Kept};
 ghost use Rattle.ds_refinement.specs.Units.{user_status};
-ghost use Rattle.ds_refinement.specs.Stands.{IsSound};
+ghost use Rattle.ds_refinement.specs.Inner.Stands.{IsSound};
 ghost use Rattle.ds_refinement.specs.Handling.{IsWhole};
 ghost use Rattle.ds_refinement.specs.Real.{RealPath};
-ghost use Rattle.ds_refinement.specs.Quiet.{IsQuiet};
-ghost use Rattle.ds_refinement.specs.Blocks.{
-  IsQuietUntil,
-  MayRunAhead,
-  at_time,
-  with_block,
-  with_exception,
-};
+ghost use Rattle.ds_refinement.specs.Inner.Quiet.{IsUndisturbed};
+ghost use Rattle.ds_refinement.specs.Inner.Blocks.{IsQuietUntil, MayRunAhead, at_time, with_block, with_exception};
 
 /// Many instructions of a process, each unit with the boundary after it, are a path of real steps.
 pub fn a_block_is_a_path()
@@ -48,7 +34,7 @@ pub fn an_exception_ends_a_block()
 
 /// Where a boundary at a later time has nothing to do, none before it has.
 pub fn the_last_boundary_decides()
-    ensures { (last : ℕ) (k : Kept) → k.ticked ≤ k.state.time → IsQuiet (at_time last k)
+    ensures { (last : ℕ) (k : Kept) → k.ticked ≤ k.state.time → IsUndisturbed (at_time last k)
         → IsQuietUntil last k }
 {}
 

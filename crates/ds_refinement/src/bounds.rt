@@ -2,12 +2,13 @@
 //! when it ends, what it meets costs few instructions, and its course takes few steps.
 ghost use Rattle.std.specs.Prelude.{◌≡◌, ◌≢◌, ◌⊎◌, ℕ, ◌+◌, ◌<◌, ◌≤◌, List, length, slice_get, slice_set, IsSome};
 ghost use Rattle.ds_tlb.specs.declared.entry.Entry.{Entry};
-ghost use Rattle.ds_tlb.specs.Entries.{ticked, find};
+ghost use Rattle.ds_tlb.specs.Entries.{random_after, find};
 ghost use Rattle.ds_refinement.specs.KeptEntries.{IsKept};
 ghost use Rattle.ds_refinement.specs.Cost.{Met, cost};
 ghost use Rattle.ds_refinement.specs.Course.{Course, AtWord, AtDoubleMiss, AtModification};
-ghost use Rattle.ds_refinement.specs.CourseSteps.{After, Begins, Next};
-ghost use Rattle.ds_refinement.specs.Tally.{IsShort, IsTallied, WasWritten, steps_ahead};
+ghost use Rattle.ds_refinement.specs.Inner.CourseSteps.{After, BeginsUnit, Next};
+ghost use Rattle.ds_refinement.specs.Tally.{IsTallied};
+ghost use Rattle.ds_refinement.specs.Inner.Tally.{IsShort, WasWritten, steps_ahead};
 
 /// In a buffer of 64 slots of which 8 are wired, the entry of a page that was written where Random
 /// stood can be found until Random has gone on 55 steps, whatever else is written at Random or into
@@ -15,10 +16,10 @@ ghost use Rattle.ds_refinement.specs.Tally.{IsShort, IsTallied, WasWritten, step
 pub fn what_was_written_stays()
     ensures begins { (entries : List Entry) (e : Entry) (random : ℕ) → length entries ≡ 64
         → 8 ≤ random → random < 64
-        → IsKept (slice_set entries random e) (ticked 64 8 random) 1 e.vpn e.asid }
+        → IsKept (slice_set entries random e) (random_after 64 8 random) 1 e.vpn e.asid }
     ensures steps { (entries : List Entry) (random n vpn asid : ℕ) → 8 ≤ random → random < 64
         → n < 55 → IsKept entries random n vpn asid
-        → IsKept entries (ticked 64 8 random) (n + 1) vpn asid }
+        → IsKept entries (random_after 64 8 random) (n + 1) vpn asid }
     ensures writes { (entries : List Entry) (random n vpn asid : ℕ) (other : Entry)
         → IsKept entries random n vpn asid
         → IsKept (slice_set entries random other) random n vpn asid }
@@ -36,7 +37,7 @@ pub fn a_unit_is_short()
 
 /// A unit is tallied where it begins, and however it goes on; and what is tallied has few counts.
 pub fn a_unit_is_tallied()
-    ensures begins { (c : Course) → Begins c → IsTallied c }
+    ensures begins { (c : Course) → BeginsUnit c → IsTallied c }
     ensures goes_on { (c d : Course) → IsTallied c → Next c d → IsTallied d }
     ensures short { (c : Course) → IsTallied c → IsShort c.work }
 {}
@@ -44,7 +45,7 @@ pub fn a_unit_is_tallied()
 /// However many steps a unit takes before it ends, it has at most 61 instructions, 4 refills, 54
 /// steps of Random since the first of these, 4 entries of page tables' pages, and 6 services.
 pub fn a_units_course_is_short()
-    ensures { (n : ℕ) (c d : Course) → Begins c → After n c d → IsShort d.work }
+    ensures { (n : ℕ) (c d : Course) → BeginsUnit c → After n c d → IsShort d.work }
 {}
 
 /// What a unit has written into the buffer is not replaced while it goes on, except by the service

@@ -4,7 +4,7 @@ ghost use Rattle.std.specs.Prelude.{◌≡◌, ℕ, ◌<◌, ◌≤◌, ◌⊎�
 ghost use Rattle.ds_isa.specs.Registers.{Registers, settled};
 ghost use Rattle.ds_pagemap.specs.Machine.{State, process_of, with_process, touched_process};
 ghost use Rattle.ds_pagemap.specs.Unit.{Branched, instruction, with_registers};
-ghost use Rattle.ds_refinement.specs.Services.{touched_registers};
+ghost use Rattle.ds_refinement.specs.Inner.Services.{touched_registers};
 ghost use Rattle.ds_refinement.specs.Units.{IsLinked};
 
 /// A branch that has written its link does the same again, since its link is none of what it

@@ -10,16 +10,8 @@ ghost use Rattle.ds_refinement.specs.Held.{Held};
 ghost use Rattle.ds_refinement.specs.Units.{has_left_user, is_served};
 ghost use Rattle.ds_refinement.specs.Counts.{HasNone, counts_of, one_served};
 ghost use Rattle.ds_refinement.specs.Steps.{Moves};
-ghost use Rattle.ds_refinement.specs.Services.{
-  EndsBy,
-  after_event,
-  step_of,
-  with_boundary,
-  with_idle_turn,
-  after_word,
-  with_none_spent,
-};
-ghost use Rattle.ds_refinement.specs.Ends.{EndsInStop, EndsInCall};
+ghost use Rattle.ds_refinement.specs.Inner.Services.{EndsUnitBy, after_event, step_of, with_boundary, with_idle_turn, after_word, with_none_spent};
+ghost use Rattle.ds_refinement.specs.Inner.Ends.{EndsInStop, EndsInCall};
 
 /// An instruction of the program counts, up to 64 in a unit.
 pub fn an_instruction_is_counted()
@@ -64,7 +56,7 @@ pub fn a_boundary_is_counted()
 /// The same holds where they are served, and the count begins again.
 pub fn a_served_boundary_is_counted()
     ensures boundary { (h new : Held) → IsSome h.kept.state.owed → new.own ≡ with_none_spent h.own
-        → EndsBy boundary h new → Moves Boundary h new }
+        → EndsUnitBy boundary h new → Moves Boundary h new }
     ensures idle { (h new : Held) → h.kept.state.owed ≡ None → new.own ≡ with_none_spent h.own
-        → EndsBy boundary (with_idle_turn h) new → Moves Boundary h new }
+        → EndsUnitBy boundary (with_idle_turn h) new → Moves Boundary h new }
 {}

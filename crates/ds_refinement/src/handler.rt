@@ -6,8 +6,8 @@ ghost use Rattle.ds_isa.specs.Registers.{settled};
 ghost use Rattle.ds_cp0.specs.declared.exception.Exception.{Exception};
 ghost use Rattle.ds_cp0.specs.System.{is_user, epc_of, entered, vector};
 ghost use Rattle.ds_refill.specs.Handler.{HasWords};
-ghost use Rattle.ds_refill.specs.Refill.{IsKernel, handler_events};
-ghost use Rattle.ds_refill.specs.Refills.{RunsInside, is_general};
+ghost use Rattle.ds_refill.specs.Inner.Refill.{IsKernel, handler_events};
+ghost use Rattle.ds_refill.specs.Inner.Refills.{RunsInside, is_general};
 ghost use Rattle.ds_core.specs.Core.{CoreState, core_at_vector};
 ghost use Rattle.ds_core.specs.Effect.{step};
 ghost use Rattle.ds_pagemap.specs.Machine.{State, process_of, touched};
@@ -17,12 +17,15 @@ ghost use Rattle.ds_refinement.specs.Told.{told, is_delayed};
 ghost use Rattle.ds_refinement.specs.Units.{EndsUnit, Promise, is_served};
 ghost use Rattle.ds_refinement.specs.Held.{Held};
 ghost use Rattle.ds_refinement.specs.Copying.{AwaitsCopy};
-ghost use Rattle.ds_refinement.specs.Handling.{AreUnits, IsMiss, IsWhole, touches};
-ghost use Rattle.ds_refinement.specs.Stands.{Agrees, IsSound};
+ghost use Rattle.ds_refinement.specs.Handling.{AreUnits, IsWhole, touches};
+ghost use Rattle.ds_refinement.specs.Inner.Handling.{IsMiss};
+ghost use Rattle.ds_refinement.specs.Stands.{Agrees};
+ghost use Rattle.ds_refinement.specs.Inner.Stands.{IsSound};
 ghost use Rattle.ds_refinement.specs.Steps.{Follows};
-ghost use Rattle.ds_refinement.specs.Services.{after_word, with_refill, with_step};
+ghost use Rattle.ds_refinement.specs.Inner.Services.{after_word, with_refill, with_step};
 ghost use Rattle.ds_refinement.specs.Real.{RealPath};
-ghost use Rattle.ds_refinement.specs.Runs.{RunsWithin, held_goes_on};
+ghost use Rattle.ds_refinement.specs.Runs.{held_goes_on};
+ghost use Rattle.ds_refinement.specs.Inner.Runs.{RunsWithin};
 
 /// Where a page of the user is missed in a unit, the processor comes to the handler's first word,
 /// and the station agrees with the same state.

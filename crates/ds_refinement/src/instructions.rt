@@ -6,16 +6,17 @@ ghost use Rattle.ds_cp0.specs.System.{is_user};
 ghost use Rattle.ds_core.specs.declared.event.Event.TheVariants.{Raised};
 ghost use Rattle.ds_core.specs.Core as core;
 ghost use Rattle.ds_core.specs.Effect.{step};
-ghost use Rattle.ds_core.specs.Core.{is_raised};
+ghost use Rattle.ds_core.specs.Inner.Core.{is_raised};
 ghost use Rattle.ds_refinement.specs.Handling.{IsWhole};
 ghost use Rattle.ds_pagemap.specs.Machine.{State};
 ghost use Rattle.ds_pagemap.specs.Unit.{instruction, with_registers};
 ghost use Rattle.ds_refinement.specs.Told.{told};
 ghost use Rattle.ds_refinement.specs.Held.{Held};
-ghost use Rattle.ds_refinement.specs.Stands.{Stands, IsSound};
-ghost use Rattle.ds_refinement.specs.Real.{IsNoBusError};
-ghost use Rattle.ds_refinement.specs.Leaves.{Leaves};
-ghost use Rattle.ds_refinement.specs.Services.{after_event, step_of};
+ghost use Rattle.ds_refinement.specs.Stands.{Stands};
+ghost use Rattle.ds_refinement.specs.Inner.Stands.{IsSound};
+ghost use Rattle.ds_refinement.specs.Inner.Real.{IsNoBusError};
+ghost use Rattle.ds_refinement.specs.Inner.Leaves.{Leaves};
+ghost use Rattle.ds_refinement.specs.Inner.Services.{after_event, step_of};
 ghost use Rattle.ds_refinement.specs.Steps.{Follows};
 
 /// What the coprocessor tells of an exception of a user is the outcome of the machine's instruction

@@ -15,7 +15,7 @@ ghost use Rattle.ds_grants.specs.Sound.{NamesPages};
 ghost use Rattle.ds_core.specs.Core.{CoreState};
 ghost use Rattle.ds_core.specs.Access.{reached};
 ghost use Rattle.ds_refinement.specs.Held.{Kept, space_of};
-ghost use Rattle.ds_refinement.specs.Granted.{IsGranted};
+ghost use Rattle.ds_refinement.specs.Inner.Granted.{IsGranted};
 
 /// A word of a page that lives lies in the page's frame: it is read there, and a word that is
 /// stored there is stored in that page and in no other, where no other page lies in its frame.

@@ -5,7 +5,7 @@ ghost use Rattle.ds_tlb.specs.declared.entry.Entry.{Entry};
 ghost use Rattle.ds_tlb.specs.Entries.{empty_entries};
 ghost use Rattle.ds_policy.specs.declared.grant.EntryPlace.{EntryPlace};
 ghost use Rattle.ds_asid.specs.Spaces.{Spaces};
-ghost use Rattle.ds_grants.specs.Changes.{both_forgotten, all_forgotten};
+ghost use Rattle.ds_grants.specs.Inner.Changes.{both_forgotten, all_forgotten};
 ghost use Rattle.ds_grants.specs.Copies.{AreRewritten};
 ghost use Rattle.ds_refinement.specs.Pairs.{HasNoNewPairs};
 

@@ -8,24 +8,14 @@ ghost use Rattle.ds_grants.specs.State.{page_state};
 ghost use Rattle.ds_refinement.specs.declared.cause.Cause.{Cause};
 ghost use Rattle.ds_refinement.specs.declared.step.Step.{Step};
 ghost use Rattle.ds_refinement.specs.Held.{Held};
-ghost use Rattle.ds_refinement.specs.Stands.{IsSound};
+ghost use Rattle.ds_refinement.specs.Inner.Stands.{IsSound};
 ghost use Rattle.ds_refinement.specs.Steps.{Follows, Moves};
-ghost use Rattle.ds_refinement.specs.Services.{
-  after_event,
-  after_word,
-};
+ghost use Rattle.ds_refinement.specs.Inner.Services.{after_event, after_word};
 ghost use Rattle.ds_refinement.specs.Told.{told};
 ghost use Rattle.ds_refinement.specs.Copying.{AwaitsCopy};
 ghost use Rattle.ds_refinement.specs.Pairs.{HasNoNewPairs};
 ghost use Rattle.ds_refinement.specs.Units.{EndsUnit, has_left_user, is_served};
-ghost use Rattle.ds_refinement.specs.Real.{
-  GoesBack,
-  HasUnit,
-  IsReal,
-  MayGoBack,
-  RealPath,
-  Through,
-};
+ghost use Rattle.ds_refinement.specs.Real.{GoesBack, HasUnit, IsReal, MayGoBack, RealPath, Through};
 
 /// No step, one step, and one path after another are paths; and the later path comes first in
 /// the list.
@@ -33,9 +23,9 @@ pub fn paths_join()
     ensures none { (h : Held) → RealPath h h }
     ensures one { (kind : Step) (old new : Held) → Follows kind old new → Moves kind old new
         → IsReal old new → RealPath old new }
-    ensures through { (old between new : Held) (before behind : List Held)
-        → Through old before between → Through between behind new
-        → Through old (behind ++ before) new }
+    ensures through { (old between new : Held) (before afterwards : List Held)
+        → Through old before between → Through between afterwards new
+        → Through old (afterwards ++ before) new }
     ensures join { (old between new : Held) → RealPath old between → RealPath between new
         → RealPath old new }
 {}

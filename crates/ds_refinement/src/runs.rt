@@ -1,21 +1,16 @@
 //! Runs of the station for a number of ticks, by single steps and by many instructions at once.
 ghost use Rattle.std.specs.Prelude.{◌≡◌, ◌≤◌, ◌<◌, ◌+◌, ℕ, true, false, Some};
 ghost use Rattle.ds_cp0.specs.declared.exception.ExceptionCode.{ExceptionCode};
-ghost use Rattle.ds_ahead.specs.Ahead.{
-  Hardware,
-  hardware_of,
-  Advances,
-  AdvancesTo,
-  ComesByWords,
-  owed_tick,
-};
+ghost use Rattle.ds_ahead.specs.Inner.Ahead.{Hardware, hardware_of, Advances, AdvancesTo, ComesByWords, owed_tick};
 ghost use Rattle.ds_refinement.specs.declared.step.Step.{Step};
 ghost use Rattle.ds_refinement.specs.Held.{Held};
 ghost use Rattle.ds_refinement.specs.Handling.{IsWhole};
-ghost use Rattle.ds_refinement.specs.Stands.{IsSound};
-ghost use Rattle.ds_refinement.specs.Steps.{Follows, Stays};
-ghost use Rattle.ds_refinement.specs.Blocks.{MayRunAhead, with_block, with_exception};
-ghost use Rattle.ds_refinement.specs.Runs.{RunsTo, RunsWithin, held_goes_on};
+ghost use Rattle.ds_refinement.specs.Inner.Stands.{IsSound};
+ghost use Rattle.ds_refinement.specs.Steps.{Follows};
+ghost use Rattle.ds_refinement.specs.Inner.Steps.{Stays};
+ghost use Rattle.ds_refinement.specs.Inner.Blocks.{MayRunAhead, with_block, with_exception};
+ghost use Rattle.ds_refinement.specs.Runs.{RunsTo, held_goes_on};
+ghost use Rattle.ds_refinement.specs.Inner.Runs.{RunsWithin};
 
 /// A run of the station goes by steps that the machine follows, as long as it goes on, and by what
 /// the machine doesn't see; where it doesn't go on, it has ended.

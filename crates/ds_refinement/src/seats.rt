@@ -5,11 +5,13 @@ ghost use Rattle.ds_grants.specs.Represented.{IsRepresented};
 ghost use Rattle.ds_refill.specs.Handler.{HasWords};
 ghost use Rattle.ds_pagemap.specs.Machine.{State, process_of, with_process, touched};
 ghost use Rattle.ds_pagemap_laws.specs.Settled.{all_settled};
-ghost use Rattle.ds_refinement.specs.Held.{Held, Kept, whole, space_of};
+ghost use Rattle.ds_refinement.specs.Held.{Held, Kept, space_of};
+ghost use Rattle.ds_refinement.specs.Inner.Held.{whole};
 ghost use Rattle.ds_refinement.specs.Handling.{HasBase};
 ghost use Rattle.ds_refinement.specs.Counts.{HasNone, HasRanges, counts_of};
-ghost use Rattle.ds_refinement.specs.Stands.{Agrees, Stands, IsKept, AreResting};
-ghost use Rattle.ds_refinement.specs.Services.{EntersBy, seated, resume_address};
+ghost use Rattle.ds_refinement.specs.Stands.{Agrees, Stands, AreResting};
+ghost use Rattle.ds_refinement.specs.Inner.Stands.{IsKept};
+ghost use Rattle.ds_refinement.specs.Inner.Services.{EntersBy, seated, resume_address};
 
 /// Once the running process is in its seat, with the registers of the processor and the address at
 /// which it goes on, all is kept.

@@ -14,10 +14,11 @@ ghost use Rattle.ds_refinement.specs.Told.{told, is_delayed, own_in};
 ghost use Rattle.ds_refinement.specs.Held.{Held};
 ghost use Rattle.ds_refinement.specs.Units.{EndsUnit, is_served, has_left_user};
 ghost use Rattle.ds_refinement.specs.Copying.{AwaitsCopy};
-ghost use Rattle.ds_refinement.specs.Stands.{Stands, IsSound};
+ghost use Rattle.ds_refinement.specs.Stands.{Stands};
+ghost use Rattle.ds_refinement.specs.Inner.Stands.{IsSound};
 ghost use Rattle.ds_refinement.specs.Steps.{Comes, Follows};
-ghost use Rattle.ds_refinement.specs.Services.{EndsBy, resume_address};
-ghost use Rattle.ds_refinement.specs.Ends.{EndsInStop, EndsInCall};
+ghost use Rattle.ds_refinement.specs.Inner.Services.{EndsUnitBy, resume_address};
+ghost use Rattle.ds_refinement.specs.Inner.Ends.{EndsInStop, EndsInCall};
 
 /// Where the unit is what a service does to the state with its process in its seat, the service
 /// ends it. What it does may be anything before or after which late loads may be finished.
@@ -29,7 +30,7 @@ pub fn a_service_ends_its_unit()
           registers = h.core.registers;
           pc = resume_address h.core;
         }))
-        → EndsBy f h new → Comes Unit new m }
+        → EndsUnitBy f h new → Comes Unit new m }
 {}
 
 /// The unit is stopped where what was told is an access that the table denies, a fault, or a call

@@ -5,28 +5,24 @@ ghost use Rattle.ds_pagemap.specs.Run.{is_over};
 ghost use Rattle.ds_refinement.specs.declared.step.Step.{Step};
 ghost use Rattle.ds_refinement.specs.declared.step.Step.TheVariants.{Boundary, Over};
 ghost use Rattle.ds_refinement.specs.Held.{Held};
-ghost use Rattle.ds_refinement.specs.Stands.{IsSound};
+ghost use Rattle.ds_refinement.specs.Inner.Stands.{IsSound};
 ghost use Rattle.ds_refinement.specs.Counts.{HasNone};
-ghost use Rattle.ds_refinement.specs.Steps.{Follows, Stays};
-ghost use Rattle.ds_refinement.specs.Services.{
-  EndsBy,
-  with_boundary,
-  with_idle_turn,
-  with_failure,
-};
-ghost use Rattle.ds_refinement.specs.Quiet.{IsQuiet};
+ghost use Rattle.ds_refinement.specs.Steps.{Follows};
+ghost use Rattle.ds_refinement.specs.Inner.Steps.{Stays};
+ghost use Rattle.ds_refinement.specs.Inner.Services.{EndsUnitBy, with_boundary, with_idle_turn, with_failure};
+ghost use Rattle.ds_refinement.specs.Inner.Quiet.{IsUndisturbed};
 
 /// A boundary that is owed and has nothing to do takes away only what is owed.
 pub fn a_quiet_boundary()
     ensures { (h : Held) → IsSome h.kept.state.owed → HasNone h.own
-        → h.kept.ticked ≤ h.kept.state.time → IsQuiet h.kept
+        → h.kept.ticked ≤ h.kept.state.time → IsUndisturbed h.kept
         → Follows Boundary h (with_boundary h) }
 {}
 
 /// Any boundary that is owed is served: who runs leaves for its seat, the boundary is done to what
 /// is kept, and the first ready process comes in.
 pub fn a_boundary_is_served()
-    ensures { (h new : Held) → IsSome h.kept.state.owed → EndsBy boundary h new
+    ensures { (h new : Held) → IsSome h.kept.state.owed → EndsUnitBy boundary h new
         → Follows Boundary h new }
 {}
 
@@ -34,14 +30,14 @@ pub fn a_boundary_is_served()
 /// nothing to do.
 pub fn an_idle_turn()
     ensures { (h : Held) → h.kept.state.owed ≡ None → h.kept.state.ready ≡ []
-        → is_over h.kept.state ≡ false → IsQuiet (with_idle_turn h).kept
+        → is_over h.kept.state ≡ false → IsUndisturbed (with_idle_turn h).kept
         → Follows Boundary h (with_boundary (with_idle_turn h)) }
 {}
 
 /// Any boundary after an idle turn is served.
 pub fn an_idle_turn_is_served()
     ensures { (h new : Held) → h.kept.state.owed ≡ None → h.kept.state.ready ≡ []
-        → is_over h.kept.state ≡ false → EndsBy boundary (with_idle_turn h) new
+        → is_over h.kept.state ≡ false → EndsUnitBy boundary (with_idle_turn h) new
         → Follows Boundary h new }
 {}
 

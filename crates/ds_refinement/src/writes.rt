@@ -4,10 +4,10 @@ ghost use Rattle.std.specs.Prelude.{ℕ};
 ghost use Rattle.ds_refinement.specs.declared.step.Step.TheVariants.{Inside};
 ghost use Rattle.ds_refinement.specs.Held.{Held, Own};
 ghost use Rattle.ds_refinement.specs.Counts.{HasNone};
-ghost use Rattle.ds_refinement.specs.Stands.{IsSound};
+ghost use Rattle.ds_refinement.specs.Inner.Stands.{IsSound};
 ghost use Rattle.ds_refinement.specs.Steps.{Follows, Moves};
 ghost use Rattle.ds_refinement.specs.Real.{IsReal};
-ghost use Rattle.ds_refinement.specs.Written.{HasWritten, KeepsWritten};
+ghost use Rattle.ds_refinement.specs.Inner.Written.{HasWritten, KeepsWritten};
 
 /// What a refill or a double miss wrote into the buffer in this unit stays in its slot in each real
 /// step inside the unit, and in one after the other; and no other slot changes. After a copy a slot

@@ -24,19 +24,19 @@ one_later place None = refl
 one_later place (Some n) = ap (λ (k : ℕ). Some k) (omega arith)
 
 -- all but the first
-behind_first : (c : ℕ) (cs : List ℕ) → take (length (c ∷ cs) - 1) (drop 1 (c ∷ cs)) ≡ cs
-behind_first c cs = take_all (length (c ∷ cs) - 1) cs (omega arith)
+past_first : (c : ℕ) (cs : List ℕ) → take (length (c ∷ cs) - 1) (drop 1 (c ∷ cs)) ≡ cs
+past_first c cs = take_all (length (c ∷ cs) - 1) cs (omega arith)
 
 pub found_later : (place : ℕ) (text rest : List ℕ) (whole : Option ℕ) → 1 ≤ length rest → starts_with (λ a b. a == b) rest text ≡ false → option_map (λ n. place + n) (first_place text rest) ≡ whole
     → option_map (λ n. place + 1 + n) (first_place text (take (length rest - 1) (drop 1 rest))) ≡ whole
 found_later place text [] whole some is before = absurd (omega (arith, some))
 found_later place text (c ∷ cs) whole some is before =
-    ap (λ (r : List ℕ). option_map (λ n. place + 1 + n) (first_place text r)) (behind_first c cs)
+    ap (λ (r : List ℕ). option_map (λ n. place + 1 + n) (first_place text r)) (past_first c cs)
     ∙ (one_later place (first_place text cs) ∙ (sym (passed_first place text c cs is) ∙ before))
 
 pub fewer_left : (place whole : ℕ) (rest : List ℕ) → 1 ≤ length rest → place + length rest ≤ whole → place + 1 + length (take (length rest - 1) (drop 1 rest)) ≤ whole
 fewer_left place whole [] some h = absurd (omega (arith, some))
-fewer_left place whole (c ∷ cs) some h = subst (λ (r : List ℕ). place + 1 + length r ≤ whole) (sym (behind_first c cs)) (omega (arith, h))
+fewer_left place whole (c ∷ cs) some h = subst (λ (r : List ℕ). place + 1 + length r ≤ whole) (sym (past_first c cs)) (omega (arith, h))
 
 -- it stands nowhere
 pub found_nowhere : (place : ℕ) (text rest : List ℕ) (whole : Option ℕ) → length rest ≡ 0 → option_map (λ n. place + n) (first_place text rest) ≡ whole → None ≡ whole

@@ -4,7 +4,8 @@ use Rattle.ds_asm.specs.Characters.{trimmed, until}
 use Rattle.ds_asm.specs.Lines.{Line, line_of}
 use Rattle.ds_asm.specs.declared.cause.Cause.{Cause}
 use Rattle.ds_source_reasons.specs.Ranges.{cause_in, range_reason_of, reason_with}
-use Rattle.ds_source_reasons.specs.Reasons.{reason_of, statement_text, unless_read}
+use Rattle.ds_source_reasons.specs.Reasons.{statement_text}
+use Rattle.ds_source_reasons.specs.Inner.Reasons.{reason_of, unless_read}
 
 read_or_not : (x : Option Line) (line : List ℕ) → is_some (unless_read x line) ≡ not (is_some x)
 read_or_not None line = refl

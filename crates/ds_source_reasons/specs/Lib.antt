@@ -1,15 +1,10 @@
 pub mod Operands
 pub mod Reasons
 pub mod Ranges
-pub mod Plain
 pub mod Texts
 pub mod Likeness
 pub mod Missing
 pub mod Told
 pub mod Carets
-pub mod CaretRows
-pub mod OnLines
-pub mod SyntaxRows
-pub mod RangeRows
-pub mod TextRows
-pub mod MissingRows
+pub mod Inner
+pub mod Rows

@@ -5,7 +5,6 @@ use Rattle.ds_asm.specs.Assembly.{lines_of}
 use Rattle.ds_asm.specs.Characters.{is_digit, is_letter, until, without_back_blanks}
 use Rattle.ds_asm.specs.Faults.{label_in}
 use Rattle.ds_asm.specs.Lines.{line_of}
-use Rattle.ds_source_reasons.specs.declared.missing.Labelled as code
 use Rattle.ds_source_reasons.specs.declared.texts.TheConstants as texts
 use Rattle.ds_source_reasons.specs.Likeness.{is_like}
 use Rattle.ds_source_reasons.specs.Reasons.{or_next}
@@ -31,10 +30,6 @@ last_word line = drop (last_word_place line) (said_before line)
 pub record Labelled : Type 0 where
   pub name : List ℕ
   pub line : ℕ
-
--- the same of the code
-abbrev pub plain_labelled : code.Labelled → Labelled
-plain_labelled l = record { name = l.name.now; line = l.line }
 
 -- the label of line n, if it has one that is like a name
 abbrev pub like_in : List ℕ → ℕ → Option (List ℕ) → Option Labelled

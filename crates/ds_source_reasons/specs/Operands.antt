@@ -2,18 +2,18 @@
 use Rattle.std.specs.Prelude.{ℕ, Bool, not, ◌||◌, List, count_by, Option, option_map, is_some}
 use Rattle.ds_word.specs.OptionBinding.{◌>>=◌}
 use Rattle.ds_isa.specs.Fields as fields
-use Rattle.ds_asm.specs.Characters.{trimmed, after}
-use Rattle.ds_asm.specs.Operands.{bare, before_close, is_code, is_link, with_operand}
+use Rattle.ds_asm.specs.Characters.{trimmed, text_after}
+use Rattle.ds_asm.specs.Operands.{without_operands, before_close, is_code, is_link, with_operand}
 use Rattle.ds_source_reasons.specs.declared.reason.Wanted.{Wanted}
 use Rattle.ds_source_reasons.specs.declared.reason.Wanted.TheVariants as wanted
 
 -- what stands in the parentheses at the end of an address
 abbrev pub base_of : List ℕ → Option (List ℕ)
-base_of text = option_map trimmed (after 40 text >>= before_close)
+base_of text = option_map trimmed (text_after 40 text >>= before_close)
 
 -- whether the assembler takes a text in the place of an operand
 abbrev pub takes : fields.Operand → List ℕ → Bool
-takes o text = is_some (with_operand o text (bare 0))
+takes o text = is_some (with_operand o text (without_operands 0))
 
 -- what has to stand in an operand's place
 abbrev pub wanted_by : fields.Operand → Wanted

@@ -52,24 +52,24 @@ range_reason_of at line = reason_with at (statement_text (trimmed (until 35 line
 -- Targets.
 
 -- the label of a target
-abbrev pub label_of : operands.Target → Option (List ℕ)
+abbrev pub label_of : operands.TargetLabel → Option (List ℕ)
 label_of operands.Nowhere = None
 label_of (operands.BranchTo name) = Some name
 label_of (operands.JumpTo name) = Some name
 
 -- the label that a statement goes to
-abbrev pub label_in : Option Statement → Option (List ℕ)
-label_in None = None
-label_in (Some (Encoded i)) = label_of i.target
-label_in (Some (WordNumber n)) = None
-label_in (Some (WordLabel name)) = None
-label_in (Some (Byte n)) = None
-label_in (Some (Space n)) = None
+abbrev pub label_gone_to : Option Statement → Option (List ℕ)
+label_gone_to None = None
+label_gone_to (Some (Encoded i)) = label_of i.target
+label_gone_to (Some (WordNumber n)) = None
+label_gone_to (Some (WordLabel name)) = None
+label_gone_to (Some (Byte n)) = None
+label_gone_to (Some (Space n)) = None
 
 -- the label that a line's statement goes to
 abbrev pub target_in : Option Line → Option (List ℕ)
 target_in None = None
-target_in (Some line) = label_in line.statement
+target_in (Some line) = label_gone_to line.statement
 
 -- the reason of a line whose target can't be reached
 abbrev pub target_reason_of : List ℕ → Option RangeReason

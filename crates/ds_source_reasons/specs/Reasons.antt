@@ -1,11 +1,11 @@
 -- Why a line of a source can't be read.
 use Rattle.std.specs.Prelude.{codes, ℕ, ◌+◌, Bool, not, ◌&&◌, ◌||◌, ◌==◌, nat_le, bytes_eq, if◌then◌else◌, List, [], ◌∷◌, length, take, count_by, Option, Some, None, option_map, is_none, is_some, unwrap_or}
 use Rattle.std.specs.List.{find, list_any}
-use Rattle.ds_asm.specs.Characters.{is_blank, is_letter, is_digit, is_name, without_back_blanks, trimmed, until, after}
+use Rattle.ds_asm.specs.Characters.{is_blank, is_letter, is_digit, is_name, without_back_blanks, trimmed, until, text_after}
 use Rattle.ds_isa.specs.Fields.{Operand}
 use Rattle.ds_asm.specs.Forms.{Written, form_named, begins_with}
 use Rattle.ds_asm.specs.Operands.{has_comma, is_code, is_link}
-use Rattle.ds_asm.specs.Lines.{Line, mnemonic_of, after_word, after_mnemonic, statement_named, line_of}
+use Rattle.ds_asm.specs.Lines.{mnemonic_of, after_word, after_mnemonic, statement_named}
 use Rattle.ds_asm.specs.RegisterNames.{register_of}
 use Rattle.ds_source_reasons.specs.declared.reason.Wanted.{Wanted}
 use Rattle.ds_source_reasons.specs.declared.reason.Wanted.TheVariants as wanted
@@ -67,7 +67,7 @@ operands_reason k [] left = TextAfter (unwrap_or left [])
 operands_reason k (o ∷ os) None = if is_code o then operands_reason (k + 1) os None else WrongOperand k (wanted_by o) []
 operands_reason k (o ∷ os) (Some text) =
     if is_link o && not (has_comma text) then operands_reason k os (Some text)
-    else if takes o (trimmed (until 44 text)) then operands_reason (k + 1) os (after 44 text)
+    else if takes o (trimmed (until 44 text)) then operands_reason (k + 1) os (text_after 44 text)
     else misfit k (wanted_by o) (takes o (mnemonic_of (trimmed (until 44 text)))) (trimmed (until 44 text))
 
 -- how many operands a text has, which commas part
@@ -76,13 +76,13 @@ operand_count None = 0
 operand_count (Some text) = count_by (λ b. b == 44) text + 1
 
 -- the reason, unless it is the number of operands
-abbrev pub counted : ℕ → ℕ → ℕ → Reason → Reason
-counted least most found why = if nat_le least found && nat_le found most then why else Operands least most found
+abbrev pub reason_or_count : ℕ → ℕ → ℕ → Reason → Reason
+reason_or_count least most found why = if nat_le least found && nat_le found most then why else Operands least most found
 
 -- the same of a form; after a statement without operands stands more text
 abbrev pub counted_by : List Operand → Option (List ℕ) → Reason → Reason
 counted_by [] left why = why
-counted_by (o ∷ os) left why = counted (least_of (o ∷ os)) (length (o ∷ os)) (operand_count left) why
+counted_by (o ∷ os) left why = reason_or_count (least_of (o ∷ os)) (length (o ∷ os)) (operand_count left) why
 
 -- Statements.
 
@@ -130,13 +130,13 @@ abbrev pub has_byte : ℕ → List ℕ → Bool
 has_byte c text = list_any (λ b. b == c) text
 
 -- what stands after a name and its colon, or else the text
-abbrev pub behind_label : List ℕ → Option (List ℕ) → List ℕ
-behind_label text None = text
-behind_label text (Some rest) = if is_name (until 58 text) then trimmed rest else text
+abbrev pub after_label : List ℕ → Option (List ℕ) → List ℕ
+after_label text None = text
+after_label text (Some rest) = if is_name (until 58 text) then trimmed rest else text
 
 -- what stands after the label, where there is one
 abbrev pub statement_text : List ℕ → List ℕ
-statement_text text = behind_label text (after 58 text)
+statement_text text = after_label text (text_after 58 text)
 
 -- whether a word is a macro of other assemblers
 unfoldable pub is_macro : List ℕ → Bool
@@ -169,12 +169,3 @@ said_reason text = first_reason text (statement_text text)
 -- why a line can't be read from which the assembler reads nothing
 unfoldable pub unread_reason : List ℕ → Reason
 unread_reason line = said_reason (trimmed (until 35 line))
-
--- the reason of a line, unless the assembler reads it
-abbrev pub unless_read : Option Line → List ℕ → Option Reason
-unless_read None line = Some (unread_reason line)
-unless_read (Some said) line = None
-
--- why a line can't be read
-unfoldable pub reason_of : List ℕ → Option Reason
-reason_of line = unless_read (line_of line) line

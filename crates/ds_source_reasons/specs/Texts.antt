@@ -14,22 +14,22 @@ abbrev pub visible : ℕ → ℕ
 visible c = if nat_le 32 c && nat_le c 126 then c else 63
 
 -- as much of a text as is shown
-abbrev pub shown : List ℕ → List ℕ
-shown text = map visible (take 40 text)
+abbrev pub shown_front : List ℕ → List ℕ
+shown_front text = map visible (take 40 text)
 
 -- a text between two others, as far as it is shown
 abbrev pub quoted : List ℕ → List ℕ → List ℕ → List ℕ
-quoted front text back = front ++ shown text ++ back
+quoted front text back = front ++ shown_front text ++ back
 
 -- a text that may be there, or another
-abbrev pub text_at : Option (List ℕ) → List ℕ → List ℕ
-text_at None other = other
-text_at (Some text) other = text
+abbrev pub text_or : Option (List ℕ) → List ℕ → List ℕ
+text_or None other = other
+text_or (Some text) other = text
 
 -- the text at a place, or another where there is no place
 abbrev pub at_place : Option ℕ → List (List ℕ) → List ℕ → List ℕ
 at_place None texts other = other
-at_place (Some place) texts other = text_at (slice_get texts place) other
+at_place (Some place) texts other = text_or (slice_get texts place) other
 
 -- what is said after the name of a macro: the text at the place of the name
 unfoldable pub macro_instead : List ℕ → List ℕ
@@ -76,12 +76,12 @@ after_wanted wanted.Address = texts.WANTED_ADDRESS.now
 after_wanted wanted.NumberOrLabel = texts.WANTED_NUMBER_OR_LABEL.now
 
 -- how many operands there are to be
-abbrev pub counts_text : ℕ → ℕ → List ℕ
-counts_text least most = if least == most then decimal most else decimal least ++ texts.TO.now ++ decimal most
+abbrev pub operand_counts_text : ℕ → ℕ → List ℕ
+operand_counts_text least most = if least == most then decimal most else decimal least ++ texts.TO.now ++ decimal most
 
 -- too few or too many operands
 abbrev pub operands_text : ℕ → ℕ → ℕ → List ℕ
-operands_text least most found = texts.OPERANDS.now ++ counts_text least most ++ texts.OPERANDS_FOUND.now ++ decimal found ++ texts.AFTER_OPERANDS.now
+operands_text least most found = texts.OPERANDS.now ++ operand_counts_text least most ++ texts.OPERANDS_FOUND.now ++ decimal found ++ texts.AFTER_OPERANDS.now
 
 -- a directive with another number of operands than one
 abbrev pub one_number_text : ℕ → List ℕ
@@ -122,12 +122,12 @@ abbrev pub bound_text : List ℕ → ℕ → ℕ → List ℕ
 bound_text found least most = quoted texts.QUOTE.now found texts.OUT_OF_RANGE.now ++ least_text least ++ texts.TO.now ++ decimal most ++ (if is_half most then texts.IN_TWO_STEPS.now else texts.STOP.now)
 
 -- a word at a wrong place
-abbrev pub place_text : ℕ → List ℕ
-place_text place = texts.NOT_ALIGNED.now ++ decimal (4 - place % 4) ++ texts.AFTER_NOT_ALIGNED.now
+abbrev pub misplaced_text : ℕ → List ℕ
+misplaced_text place = texts.NOT_ALIGNED.now ++ decimal (4 - place % 4) ++ texts.AFTER_NOT_ALIGNED.now
 
 -- the words of a reason for which a statement is out of range
 unfoldable pub range_text : RangeReason → List ℕ
 range_text (OutOfRange found least most) = bound_text found least most
-range_text (NotAligned place) = place_text place
+range_text (NotAligned place) = misplaced_text place
 range_text (Reserved name) = quoted texts.QUOTE.now name texts.AFTER_RESERVED.now
 range_text (Target label) = quoted texts.TARGET.now label texts.AFTER_TARGET.now

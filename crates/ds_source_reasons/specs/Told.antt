@@ -5,22 +5,14 @@ use Rattle.ds_asm.specs.declared.fault.SourceFault.{SourceFault}
 use Rattle.ds_asm.specs.declared.fault.SourceFault.TheVariants as fault
 use Rattle.ds_asm.specs.Faults.{size_in}
 use Rattle.ds_asm.specs.Lines.{line_of}
-use Rattle.ds_source_reasons.specs.declared.fault.FaultReason as code
-use Rattle.ds_source_reasons.specs.declared.fault.FaultReason.TheVariants as told
 use Rattle.ds_source_reasons.specs.Reasons.{Reason, or_next, unread_reason}
 use Rattle.ds_source_reasons.specs.Ranges.{RangeReason, range_reason_of, target_reason_of}
-use Rattle.ds_source_reasons.specs.Plain.{plain_range, plain_reason}
 use Rattle.ds_source_reasons.specs.Texts.{reason_text, range_text}
 
 -- why a line can't be read, or why its statement is out of range
 pub data FaultReason : Type 0 where
   Unread : (reason : Reason) → FaultReason
   OutOf : (reason : RangeReason) → FaultReason
-
--- a reason of the code, with its texts as lists
-abbrev pub plain_fault : code.FaultReason → FaultReason
-plain_fault (told.Syntax reason) = Unread (plain_reason reason)
-plain_fault (told.Range reason) = OutOf (plain_range reason)
 
 -- the reason of a fault of a line that begins at a place of the image
 abbrev pub told_reason : SourceFault → ℕ → List ℕ → Option FaultReason
@@ -53,10 +45,10 @@ after_lines zero text = text
 after_lines (suc k) text = after_lines k (after_line text)
 
 -- how far behind a multiple of four the bytes of so many lines end
-abbrev pub place_after : ℕ → ℕ → List ℕ → ℕ
-place_after zero place text = place
-place_after (suc k) place text = place_after k (line_after place (line_in text)) (after_line text)
+abbrev pub offset_after : ℕ → ℕ → List ℕ → ℕ
+offset_after zero place text = place
+offset_after (suc k) place text = offset_after k (line_after place (line_in text)) (after_line text)
 
 -- the reason of a fault of the line that stands after so many lines of a text
-abbrev pub reason_at : ℕ → SourceFault → List ℕ → Option FaultReason
-reason_at k fault text = told_reason fault (place_after k 0 text) (line_in (after_lines k text))
+abbrev pub fault_reason_at : ℕ → SourceFault → List ℕ → Option FaultReason
+fault_reason_at k fault text = told_reason fault (offset_after k 0 text) (line_in (after_lines k text))

@@ -1,7 +1,7 @@
 //! Where in a line stands what a reason quotes of it.
 ghost use Rattle.std.specs.Prelude.{◌≡◌, ◌<◌, IfSome, length};
 ghost use Rattle.ds_source_reasons.specs.Carets.{caret_place, first_place, quote_of, quoted_place, unless_again};
-ghost use Rattle.ds_source_reasons.specs.Told.{plain_fault};
+ghost use Rattle.ds_source_reasons.specs.Inner.Told.{plain_fault};
 
 use crate::fault::FaultReason;
 use crate::reason::{RangeReason, SyntaxReason};
@@ -80,12 +80,12 @@ fn first_place(text: &[u8], line: &[u8]) -> Option<usize>
 {
     let mut place = 0;
     let mut rest = line;
-    while let [_, behind @ ..] = rest {
+    while let [_, afterwards @ ..] = rest {
         if rest.starts_with(text) {
             return Some(place);
         }
         place += 1;
-        rest = behind;
+        rest = afterwards;
     }
     None
 }

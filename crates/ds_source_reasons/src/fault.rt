@@ -1,10 +1,11 @@
 //! The reasons of the faults of a source.
 ghost use Rattle.std.specs.Prelude.{◌≡◌, ◌++◌, ◌-◌, OnOk, option_map};
 ghost use Rattle.ds_asm.specs.Assembling.{source_fault_line};
-ghost use Rattle.ds_source_reasons.specs.Plain.{plain_range};
+ghost use Rattle.ds_source_reasons.specs.Inner.Plain.{plain_range};
 ghost use Rattle.ds_source_reasons.specs.Ranges.{range_reason_of, target_reason_of};
 ghost use Rattle.ds_source_reasons.specs.Reasons.{or_next};
-ghost use Rattle.ds_source_reasons.specs.Told.{after_line, after_lines, fault_text, line_after, place_after, plain_fault, reason_at, told_reason};
+ghost use Rattle.ds_source_reasons.specs.Told.{after_line, after_lines, fault_text, line_after, offset_after, fault_reason_at, told_reason};
+ghost use Rattle.ds_source_reasons.specs.Inner.Told.{plain_fault};
 
 use crate::line::unread_reason;
 use crate::range::{range_reason, target_reason};
@@ -46,7 +47,7 @@ impl<'a> FaultyLines<'a> {
     /// the assembler does after a fault. `UnknownLabel`, `DoubleLabel` and `TooLong` have no reason.
     pub fn reason(&mut self, fault: SourceFault) -> Option<FaultReason<'a>>
         ensures reason { option_map plain_fault result
-            ≡ reason_at (source_fault_line fault - self.old.passed - 1) fault self.old.rest.now }
+            ≡ fault_reason_at (source_fault_line fault - self.old.passed - 1) fault self.old.rest.now }
         ensures rest { self.new.rest.now ≡ after_line
             (after_lines (source_fault_line fault - self.old.passed - 1) self.old.rest.now) }
         ensures passed { self.new.passed ≡ source_fault_line fault }
@@ -54,8 +55,8 @@ impl<'a> FaultyLines<'a> {
         let line = fault.line();
         let count = line.saturating_sub(self.passed).saturating_sub(1);
         let (place, rest) = past(count, self.rest);
-        let (text, behind) = first_line(rest);
-        self.rest = behind;
+        let (text, afterwards) = first_line(rest);
+        self.rest = afterwards;
         self.passed = line;
         fault_reason(fault, place, text)
     }
@@ -63,15 +64,15 @@ impl<'a> FaultyLines<'a> {
 
 /// What stands after so many lines, and how far behind a multiple of four their bytes end.
 fn past(count: u64, text: &[u8]) -> (u64, &[u8])
-    ensures place { result.0 ≡ place_after count 0 text.now }
+    ensures place { result.0 ≡ offset_after count 0 text.now }
     ensures rest { result.1.now ≡ after_lines count text.now }
 {
     let mut place = 0u64;
     let mut rest = text;
     for _ in 0..count {
-        let (line, behind) = first_line(rest);
+        let (line, afterwards) = first_line(rest);
         place = place_past(place, line);
-        rest = behind;
+        rest = afterwards;
     }
     (place, rest)
 }

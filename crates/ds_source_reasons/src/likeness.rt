@@ -31,13 +31,13 @@ fn is_same_but_one(front: usize, a: &[u8], b: &[u8]) -> bool
     ensures { result ≡ is_same_but_one front a.now b.now }
 {
     let next = front + 1;
-    behind(next, a) == behind(next, b)
-        || behind(next, a) == behind(front, b)
-        || behind(front, a) == behind(next, b)
+    afterwards(next, a) == afterwards(next, b)
+        || afterwards(next, a) == afterwards(front, b)
+        || afterwards(front, a) == afterwards(next, b)
 }
 
 /// What stands behind so many bytes of a text; nothing where it has no more.
-fn behind(count: usize, text: &[u8]) -> &[u8]
+fn afterwards(count: usize, text: &[u8]) -> &[u8]
     ensures { result.now ≡ drop count text.now }
 {
     if count < text.len() {

@@ -1,8 +1,9 @@
 //! The reason of a line.
 ghost use Rattle.std.specs.Prelude.{◌≡◌, ◌==◌, ◌∷◌, [], not, bytes_eq, take, option_map};
 ghost use Rattle.std.specs.List.{find};
-ghost use Rattle.ds_source_reasons.specs.Plain.{plain_reason};
-ghost use Rattle.ds_source_reasons.specs.Reasons.{is_directive, is_written, no_label, reason_of, said_reason, statement_text, unread_reason};
+ghost use Rattle.ds_source_reasons.specs.Inner.Plain.{plain_reason};
+ghost use Rattle.ds_source_reasons.specs.Reasons.{is_directive, is_written, no_label, said_reason, statement_text, unread_reason};
+ghost use Rattle.ds_source_reasons.specs.Inner.Reasons.{reason_of};
 
 use crate::characters::{begins_with, has_byte};
 use crate::macros::is_macro;
@@ -14,7 +15,7 @@ use ds_asm::{
 };
 
 /// Why a line of a source, without its line feed, can't be read. There is none where it can.
-#[tactic(auto, unfolding(crate::specs::Reasons::reason_of))]
+#[tactic(auto, unfolding(crate::specs::Inner::Reasons::reason_of))]
 pub fn syntax_reason(line: &[u8]) -> Option<SyntaxReason<'_>>
     ensures { option_map plain_reason result ≡ reason_of line.now }
 {
@@ -61,8 +62,8 @@ fn said_reason(text: &[u8]) -> SyntaxReason<'_>
 pub(crate) fn statement_text(text: &[u8]) -> &[u8]
     ensures { result.now ≡ statement_text text.now }
 {
-    let (name, behind) = split_at_first(b':', text);
-    match behind {
+    let (name, afterwards) = split_at_first(b':', text);
+    match afterwards {
         Some(rest) if is_name(name) => trimmed(rest),
         _ => text,
     }

@@ -2,7 +2,7 @@
 ghost use Rattle.std.specs.Prelude.{◌≡◌, bytes_eq, map, position};
 ghost use Rattle.std.specs.List.{list_any, slice_get};
 ghost use Rattle.ds_source_reasons.specs.Reasons.{is_macro};
-ghost use Rattle.ds_source_reasons.specs.Texts.{at_place, directive_instead, macro_instead, text_at};
+ghost use Rattle.ds_source_reasons.specs.Texts.{at_place, directive_instead, macro_instead, text_or};
 
 /// The macros of other assemblers, each with what is said after its name.
 macro_rules! macro_table {
@@ -171,7 +171,7 @@ pub(crate) fn instead_of(
 {
     match place_among(names, name) {
         None => other,
-        Some(place) => text_at(texts, place, other),
+        Some(place) => text_or(texts, place, other),
     }
 }
 
@@ -181,8 +181,8 @@ fn place_among(names: &[&str], name: &[u8]) -> Option<usize>
     names.iter().position(|m| m.as_bytes() == name)
 }
 
-fn text_at(texts: &[&'static str], place: usize, other: &'static str) -> &'static str
-    ensures { result.now ≡ text_at (slice_get (map (λ t. t.now) texts.now) place) other.now }
+fn text_or(texts: &[&'static str], place: usize, other: &'static str) -> &'static str
+    ensures { result.now ≡ text_or (slice_get (map (λ t. t.now) texts.now) place) other.now }
 {
     match texts.get(place) {
         Some(text) => text,

@@ -4,7 +4,8 @@ ghost use Rattle.std.specs.List.{suffix_len};
 ghost use Rattle.ds_asm.specs.Assembly.{lines_of};
 ghost use Rattle.ds_asm.specs.Faults.{label_in};
 ghost use Rattle.ds_asm.specs.Lines.{line_of};
-ghost use Rattle.ds_source_reasons.specs.Missing.{first_like, is_of_word, labelled_text, last_word, last_word_place, like_in, like_label, like_text, missing_text, plain_labelled};
+ghost use Rattle.ds_source_reasons.specs.Missing.{first_like, is_of_word, labelled_text, last_word, last_word_place, like_in, like_label, like_text, missing_text};
+ghost use Rattle.ds_source_reasons.specs.Inner.Missing.{plain_labelled};
 
 use crate::characters::front_of;
 use crate::likeness::is_like;

@@ -1,9 +1,9 @@
 //! Why operands can't be read.
 ghost use Rattle.std.specs.Prelude.{◌≡◌, ◌≤◌, ◌+◌, ◌^◌, ◌<◌, option_map, map, length};
-ghost use Rattle.ds_asm.specs.Forms.{operand_of};
+ghost use Rattle.ds_asm.specs.Inner.Forms.{operand_of};
 ghost use Rattle.ds_source_reasons.specs.Operands.{base_of, least_of, wanted_by};
-ghost use Rattle.ds_source_reasons.specs.Plain.{plain_reason};
-ghost use Rattle.ds_source_reasons.specs.Reasons.{counted, counted_by, is_no_register, misfit, operand_count, operands_reason, register_in};
+ghost use Rattle.ds_source_reasons.specs.Inner.Plain.{plain_reason};
+ghost use Rattle.ds_source_reasons.specs.Reasons.{reason_or_count, counted_by, is_no_register, misfit, operand_count, operands_reason, register_in};
 
 use crate::characters::{begins_with, count_commas};
 use crate::reason::{SyntaxReason, Wanted};
@@ -41,10 +41,10 @@ pub(crate) fn operands_reason<'a>(
                 if operand.is_link() && !has_comma(text) {
                     return operands_reason(number, more, left);
                 }
-                let (front, behind) = split_at_first(b',', text);
+                let (front, afterwards) = split_at_first(b',', text);
                 let front = trimmed(front);
                 if operand.takes(front) {
-                    return operands_reason(number + 1, more, behind);
+                    return operands_reason(number + 1, more, afterwards);
                 }
                 let (word, _) = split_word(front);
                 misfit(number, wanted_by(*operand), operand.takes(word), front)
@@ -105,8 +105,8 @@ fn is_no_register(name: &[u8]) -> bool
 fn base_of(text: &[u8]) -> Option<&[u8]>
     ensures { option_map (λ t. t.now) result ≡ base_of text.now }
 {
-    let (_, behind) = split_at_first(b'(', text);
-    let inner = before_close(behind?)?;
+    let (_, afterwards) = split_at_first(b'(', text);
+    let inner = before_close(afterwards?)?;
     Some(trimmed(inner))
 }
 
@@ -121,13 +121,13 @@ pub(crate) fn operand_count(left: Option<&[u8]>) -> u64
 }
 
 /// The reason, unless it is the number of operands.
-pub(crate) fn counted<'a>(
+pub(crate) fn reason_or_count<'a>(
     least: u64,
     most: u64,
     found: u64,
     reason: SyntaxReason<'a>,
 ) -> SyntaxReason<'a>
-    ensures { plain_reason result ≡ counted least most found (plain_reason reason.entry) }
+    ensures { plain_reason result ≡ reason_or_count least most found (plain_reason reason.entry) }
 {
     if least <= found && found <= most {
         reason
@@ -148,7 +148,7 @@ pub(crate) fn counted_by<'a>(
 {
     match operands {
         [] => reason,
-        [_, ..] => counted(
+        [_, ..] => reason_or_count(
             least_of(operands) as u64,
             operands.len() as u64,
             operand_count(left),

@@ -1,8 +1,8 @@
 //! The reason of a statement that may not stand where it stands.
 ghost use Rattle.std.specs.Prelude.{◌≡◌, ◌≤◌, ◌==◌, not, length, option_map};
 ghost use Rattle.std.specs.List.{suffix_len};
-ghost use Rattle.ds_asm.specs.Plain.{plain_line};
-ghost use Rattle.ds_source_reasons.specs.Plain.{plain_range};
+ghost use Rattle.ds_asm.specs.Inner.Plain.{plain_line};
+ghost use Rattle.ds_source_reasons.specs.Inner.Plain.{plain_range};
 ghost use Rattle.ds_source_reasons.specs.Ranges.{cause_in, number_text, range_reason_of, reason_by, reason_with, target_reason_of};
 
 use crate::line::statement_text;

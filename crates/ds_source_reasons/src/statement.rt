@@ -1,8 +1,8 @@
 //! The reason of a statement.
 ghost use Rattle.std.specs.Prelude.{◌≡◌, option_map};
-ghost use Rattle.ds_asm.specs.Forms.{written_of};
+ghost use Rattle.ds_asm.specs.Inner.Forms.{written_of};
 ghost use Rattle.ds_asm.specs.Lines.{after_mnemonic, mnemonic_of};
-ghost use Rattle.ds_source_reasons.specs.Plain.{plain_reason};
+ghost use Rattle.ds_source_reasons.specs.Inner.Plain.{plain_reason};
 ghost use Rattle.ds_source_reasons.specs.Reasons.{directive_reason, has_upper_case, instruction_reason, no_mnemonic, one_number, statement_reason};
 
 use crate::line::is_directive;

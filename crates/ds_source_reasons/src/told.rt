@@ -1,7 +1,7 @@
 //! The words in which a reason is told.
 ghost use Rattle.std.specs.Prelude.{◌≡◌, ◌++◌, OnOk, decimal};
-ghost use Rattle.ds_source_reasons.specs.Plain.{plain_range, plain_reason};
-ghost use Rattle.ds_source_reasons.specs.Texts.{after_byte, after_wanted, bound_text, counts_text, least_text, one_number_text, operand_text, operands_text, place_text, is_half, quoted, range_text, reason_text, shown, visible};
+ghost use Rattle.ds_source_reasons.specs.Inner.Plain.{plain_range, plain_reason};
+ghost use Rattle.ds_source_reasons.specs.Texts.{after_byte, after_wanted, bound_text, operand_counts_text, least_text, one_number_text, operand_text, operands_text, misplaced_text, is_half, quoted, range_text, reason_text, shown_front, visible};
 
 use crate::characters::front_of;
 use crate::elsewhere::mnemonic_instead;
@@ -94,7 +94,7 @@ fn push_operands(sheet: &mut Vec<u8>, least: u64, most: u64, found: u64) -> Resu
 }
 
 fn push_counts(sheet: &mut Vec<u8>, least: u64, most: u64) -> Result<(), AllocError>
-    ensures { OnOk result (sheet.new.items ≡ sheet.old.items ++ counts_text least most) }
+    ensures { OnOk result (sheet.new.items ≡ sheet.old.items ++ operand_counts_text least most) }
 {
     if least == most {
         return push_decimal(sheet, most);
@@ -138,7 +138,7 @@ fn push_least(sheet: &mut Vec<u8>, least: u64) -> Result<(), AllocError>
 }
 
 fn push_place(sheet: &mut Vec<u8>, place: u64) -> Result<(), AllocError>
-    ensures { OnOk result (sheet.new.items ≡ sheet.old.items ++ place_text place) }
+    ensures { OnOk result (sheet.new.items ≡ sheet.old.items ++ misplaced_text place) }
 {
     push_text(sheet, NOT_ALIGNED)?;
     push_decimal(sheet, 4 - place % 4)?;
@@ -162,7 +162,7 @@ pub(crate) fn push_quoted(
 
 /// Adds the first characters of a text, each that can't be seen as `?`.
 fn push_shown(sheet: &mut Vec<u8>, text: &[u8]) -> Result<(), AllocError>
-    ensures { OnOk result (sheet.new.items ≡ sheet.old.items ++ shown text.now) }
+    ensures { OnOk result (sheet.new.items ≡ sheet.old.items ++ shown_front text.now) }
 {
     let front = front_of(MOST_SHOWN, text);
     for c in front {

@@ -12,10 +12,11 @@ use Rattle.ds_alone.specs.Tests.{is_alone, nobody_may_give}
 use Rattle.ds_alone.specs.Touched.{IsQuietAlone}
 use Rattle.ds_alone.proofs.Inputs.{shown_more, shown_alone, shown_under}
 use Rattle.ds_kernel.specs.declared.halt.Halt.{Halt}
-use Rattle.ds_kernel.specs.Ran.{HasRun, WasCut}
-use Rattle.ds_station.specs.Alone.{WritesAlone, WritesEachAlone, RunsAlone}
+use Rattle.ds_kernel.specs.Inner.Ran.{HasRun, WasCut}
+use Rattle.ds_station.specs.Alone.{WritesAlone, WritesEachAlone}
+use Rattle.ds_station.specs.Inner.Alone.{RunsAlone}
 use Rattle.ds_station.specs.Headline.{Begins, Writes}
-use Rattle.ds_station.specs.Written.{RunsGuarded}
+use Rattle.ds_station.specs.Inner.Written.{RunsGuarded}
 use Rattle.ds_station.proofs.Guarded.{run_guarded, cut_guarded}
 use Rattle.ds_station.proofs.Quiet.{one_first_under}
 

@@ -9,7 +9,7 @@ use Rattle.ds_core.specs.Core.{CoreState}
 use Rattle.ds_refinement.specs.Real.{Through, RealPath}
 use Rattle.ds_refinement.specs.Stands.{CountedBy, Stands}
 use Rattle.ds_station.specs.Along.{Both, ShowsRunner, ShowsState, StepsAlong, ThroughBoth, RunsAlong}
-use Rattle.ds_station.specs.Headline.{Begins, BeginsWith, Loaded, loaded}
+use Rattle.ds_station.specs.Headline.{Begins, BeginsWith, Loaded, loaded_with}
 use Rattle.ds_station.proofs.Preparing.{both_made}
 
 -- A station shows each state that it stands for.
@@ -51,7 +51,7 @@ runs_along first old new k path =
     record { shows = shows old first k; path = done.path; last = done.last; through = done.through }
 
 -- a station that stands for the first state, and began with the inputs, stands for the first state of these
-pub begun_stands : (policy : PolicyValue) (s : Sources) (input : List ℕ) (n r : ℕ) (h : Held) → Begins (inputs_under policy s input n r) (Stands h) → (b : Begins (inputs_under_by loaded policy s input n r) (BeginsWith r h))
+pub begun_stands : (policy : PolicyValue) (s : Sources) (input : List ℕ) (n r : ℕ) (h : Held) → Begins (inputs_under policy s input n r) (Stands h) → (b : Begins (inputs_under_by loaded_with policy s input n r) (BeginsWith r h))
     → Stands h (first_state b.0.policy b.0.images b.0.input)
 begun_stands policy s input n r h a b =
     let read = both_made policy s input n r b.0 b.1 in

@@ -9,9 +9,9 @@ use Rattle.ds_pagemap.specs.Inputs.{Refusal, Sources, inputs, inputs_under}
 use Rattle.ds_pagemap.specs.Run.{Reaches}
 use Rattle.ds_pagemap_laws.proofs.FirstStates.{made}
 use Rattle.ds_refinement.specs.Held.{Held}
-use Rattle.ds_refinement.specs.Runs.{RunsWithin}
+use Rattle.ds_refinement.specs.Inner.Runs.{RunsWithin}
 use Rattle.ds_kernel.specs.declared.halt.Halt.{Halt}
-use Rattle.ds_kernel.specs.Ran.{HasRun, WasCut}
+use Rattle.ds_kernel.specs.Inner.Ran.{HasRun, WasCut}
 use Rattle.ds_station.proofs.Runs.{cut_within}
 use Rattle.ds_promise.specs.Lines.{lines_along}
 use Rattle.ds_promise.proofs.Stores.{along_only_stores}
@@ -19,7 +19,8 @@ use Rattle.ds_promise.proofs.Lines.{reaches_lines}
 use Rattle.ds_promise.proofs.Copies.{along_as_granted}
 use Rattle.ds_promise.proofs.FirstPages.{inputs_whole, made_under}
 use Rattle.ds_station.specs.Headline.{Begins, Writes, WritesPrefix, WritesPart, EndsBy}
-use Rattle.ds_station.specs.Written.{IsGuarded, IsGuardedFromFirst, WritesGuarded, WritesWholeGuarded, WritesGuardedPrefix, WritesGuardedPart, EndsGuarded, RunsGuarded}
+use Rattle.ds_station.specs.Written.{IsGuarded, IsGuardedFromFirst, WritesGuarded, WritesWholeGuarded, WritesGuardedPrefix, WritesGuardedPart, EndsGuarded}
+use Rattle.ds_station.specs.Inner.Written.{RunsGuarded}
 use Rattle.ds_station.specs.declared.fault.Fault.{Fault}
 use Rattle.ds_station.specs.declared.fault.Fault.TheVariants as fault
 

@@ -4,21 +4,23 @@ use Rattle.std.specs.Prelude.{Some, OnOk, OnErr, IfErr, None, is_some, ◌||◌,
 use Rattle.std.specs.Io.KnownBytes.{Appends, Keeps}
 use Rattle.ds_log.specs.Text.{line_text}
 use Rattle.ds_log.specs.Report.{report_text}
-use Rattle.ds_log.specs.Sent.{Answers, AppendsPart, IsAskedOnce}
+use Rattle.ds_log.specs.Sent.{WriterAnswers, AppendsPart, IsAskedOnce}
 use Rattle.ds_pagemap.specs.declared.turn.Turn.{Turn}
 use Rattle.ds_pagemap.specs.Machine.{State}
 use Rattle.ds_pagemap.specs.Run.{Ends, IsPrefix, is_over}
-use Rattle.ds_pagemap.specs.Text.{text_of}
+use Rattle.ds_pagemap.specs.Text.{state_text}
 use Rattle.ds_pagemap.specs.Inputs.{Refusal}
 use Rattle.ds_refinement.specs.Held.{Held, bare}
 use Rattle.ds_refinement.specs.Stands.{Stands}
 use Rattle.ds_refinement.specs.Real.{RealPath}
-use Rattle.ds_refinement.specs.Runs.{RunsTo, RunsWithin, held_goes_on}
+use Rattle.ds_refinement.specs.Runs.{RunsTo, held_goes_on}
+use Rattle.ds_refinement.specs.Inner.Runs.{RunsWithin}
 use Rattle.ds_refinement.proofs.Boundaries.{beside}
 use Rattle.ds_refinement.proofs.RunSteps.{goes_alike}
 use Rattle.ds_station.specs.Headline.{held_text, Loaded, BeginsWith, Writes, WritesPrefix, WritesPart, WritesReally, WritesCut, WritesPartReally, Refuses, EndsBy, EndsReally, Begins, IsRefused}
-use Rattle.ds_station.specs.Faults.{IsNewFault, IsFaultAfter, is_unwritten}
-use Rattle.ds_station.specs.Runs.{IsCut}
+use Rattle.ds_station.specs.Faults.{is_unwritten}
+use Rattle.ds_station.specs.Inner.Faults.{IsNewFault, IsFaultAfter}
+use Rattle.ds_station.specs.Inner.Runs.{IsCut}
 use Rattle.ds_station.specs.declared.fault.Fault.{Fault}
 use Rattle.ds_station.specs.declared.fault.Fault.TheVariants as fault
 
@@ -37,7 +39,7 @@ module _ (h : Held) (m : State) (k : Stands h m) where
   owed_stands = ap (λ (s : State). s.owed) kept
 
   -- the text of what is held is that of the state
-  pub text_alike : held_text h ≡ text_of m
+  pub text_alike : held_text h ≡ state_text m
   text_alike =
       ap (λ (cs : List (List ℕ)). report_text cs h.kept.lines h.kept.log h.kept.state.time) (sym consoles_stand)
       ∙ (ap (λ (n : ℕ). report_text m.consoles n h.kept.log h.kept.state.time) (sym k.agrees.kept.lines)
@@ -87,11 +89,11 @@ fault_written fault.Memory read old new n i b = inr b
 fault_written f read old new n i b = absurd i
 
 -- a writer that is not asked has no new answer
-unasked : (asked : Option Answers) → IsAskedOnce asked asked false
+unasked : (asked : Option WriterAnswers) → IsAskedOnce asked asked false
 unasked None = tt
 unasked (Some a) = λ going. (going, refl)
 
-new_asked : (f : Fault) (old new : Option Answers) → IsNewFault f → IsAskedOnce old new false → IsAskedOnce old new (is_unwritten {T = Unit {0}} (Err f))
+new_asked : (f : Fault) (old new : Option WriterAnswers) → IsNewFault f → IsAskedOnce old new false → IsAskedOnce old new (is_unwritten {T = Unit {0}} (Err f))
 new_asked fault.Memory old new i asked = asked
 new_asked f old new i asked = absurd i
 
@@ -104,12 +106,12 @@ refused_unwritten fault.Failed read old new n i k = absurd i
 refused_unwritten f read old new n i k = (i, k)
 
 -- where the inputs are refused the writer is not asked
-pub refused_unasked : {Y : Type 0} (f : Fault) (read : Result Y Refusal) (asked : Option Answers) → Refuses f read → IsAskedOnce asked asked (is_unwritten {T = Unit {0}} (Err f))
+pub refused_unasked : {Y : Type 0} (f : Fault) (read : Result Y Refusal) (asked : Option WriterAnswers) → Refuses f read → IsAskedOnce asked asked (is_unwritten {T = Unit {0}} (Err f))
 refused_unasked fault.WriteFault read asked i = absurd i
 refused_unasked f read asked i = unasked asked
 
 -- a text that went out, of a run that failed for no write
-pub ran_asked : (ran : Result (Unit {0}) Fault) (failed : Bool) (old new : Option Answers) → failed ≡ false → IfErr ran (IsFaultAfter failed) → IsAskedOnce old new false → IsAskedOnce old new (is_unwritten ran)
+pub ran_asked : (ran : Result (Unit {0}) Fault) (failed : Bool) (old new : Option WriterAnswers) → failed ≡ false → IfErr ran (IsFaultAfter failed) → IsAskedOnce old new false → IsAskedOnce old new (is_unwritten ran)
 ran_asked (Ok x) failed old new working faults asked = asked
 ran_asked (Err f) failed old new working faults asked = new_asked f old new (subst (λ (b : Bool). IsFaultAfter b f) working faults) asked
 

@@ -9,13 +9,15 @@ use Rattle.ds_pagemap.specs.Run.{half_turn, goes_on, is_over, after, Reaches}
 use Rattle.ds_pagemap.proofs.Runs.{reaches_half, reaches_touch}
 use Rattle.ds_refinement.specs.Held.{Held}
 use Rattle.ds_refinement.specs.Real.{RealPath}
-use Rattle.ds_refinement.specs.Runs.{RunsTo, RunsWithin, held_goes_on}
+use Rattle.ds_refinement.specs.Runs.{RunsTo, held_goes_on}
+use Rattle.ds_refinement.specs.Inner.Runs.{RunsWithin}
 use Rattle.ds_refinement.specs.Stands.{Stands}
 use Rattle.ds_refinement.proofs.Joined.{path_join}
 use Rattle.ds_refinement.proofs.RunSteps.{to_end}
 use Rattle.ds_station.specs.Headline.{Begins, BeginsWith, Loaded, held_text}
-use Rattle.ds_station.specs.Pieces.{ComesReally, ComesTo, IsFewAfter, PassesIn, WritesUpTo, piece, size_by, size_held, size_of}
-use Rattle.ds_station.specs.Runs.{IsCut}
+use Rattle.ds_station.specs.Pieces.{ComesReally, PieceComesTo, IsFewAfter, PassesIn, piece, size_by, size_held, size_of_state}
+use Rattle.ds_station.specs.Inner.Pieces.{WritesUpTo}
+use Rattle.ds_station.specs.Inner.Runs.{IsCut}
 use Rattle.ds_station.proofs.Headlines.{consoles_stand, never_owed, owed_stands, text_alike}
 use Rattle.ds_station.proofs.Outcomes.{writes_by}
 use Rattle.ds_station.proofs.Runs.{path_keeps}
@@ -87,8 +89,8 @@ pub piece_within : (n number : ℕ) → number < n / piece + 1 → number * piec
 piece_within n number early = omega (arith, early)
 
 -- and all pieces but the last are behind where no whole one is left
-pub pieces_behind : (n number : ℕ) → n / piece + 1 ≤ number → n ≤ number * piece
-pieces_behind n number late = omega (arith, late)
+pub pieces_after : (n number : ℕ) → n / piece + 1 ≤ number → n ≤ number * piece
+pieces_after n number late = omega (arith, late)
 
 -- One piece more.
 
@@ -123,13 +125,13 @@ few_more most number old new over few =
 -- What is written of it.
 
 -- the bytes that a station holds are those of each state that it stands for
-pub size_alike : (h : Held) (m : State) → Stands h m → size_held h ≡ size_of m
+pub size_alike : (h : Held) (m : State) → Stands h m → size_held h ≡ size_of_state m
 size_alike h m k =
     ap (λ (cs : List (List ℕ)). size_by cs h.kept.log) (sym (consoles_stand h m k))
     ∙ ap (size_by m.consoles) (sym k.agrees.kept.log)
 
 -- by how far it went
-pub writes_up_to : (extent : Extent) (n most : ℕ) (read : Result State Refusal) (s t : Held) (old new : Option (List ℕ)) → Begins read (Stands s) → RunsWithin n s t → ComesTo extent n most s t → Appends old new (held_text t) → Begins read (WritesUpTo extent most t old new n)
+pub writes_up_to : (extent : Extent) (n most : ℕ) (read : Result State Refusal) (s t : Held) (old new : Option (List ℕ)) → Begins read (Stands s) → RunsWithin n s t → PieceComesTo extent n most s t → Appends old new (held_text t) → Begins read (WritesUpTo extent most t old new n)
 writes_up_to Whole n most read s t old new b within c a =
     let w = writes_by old new n read s t b (to_end n s t within c.over) a in
     (w.0, w.1, record { by = w.2; few = subst (λ (size : ℕ). size ≤ most) (size_alike t w.2.last w.2.stands) c.few })
@@ -148,5 +150,5 @@ writes_up_to TooMuch n most read s t old new b within c a =
     )
 
 -- what the processor did
-pub comes_really : (extent : Extent) (n most start : ℕ) (read : Result Loaded Refusal) (s t : Held) → Begins read (BeginsWith start s) → RealPath s t → ComesTo extent n most s t → Begins read (ComesReally extent n most start t)
+pub comes_really : (extent : Extent) (n most start : ℕ) (read : Result Loaded Refusal) (s t : Held) → Begins read (BeginsWith start s) → RealPath s t → PieceComesTo extent n most s t → Begins read (ComesReally extent n most start t)
 comes_really extent n most start read s t b path c = (b.0, b.1, record { first = s; begins = b.2; path = path; comes = c })

@@ -9,7 +9,7 @@ use Rattle.ds_refinement.specs.Runs.{RunsTo}
 use Rattle.ds_refinement.specs.Stands.{Stands}
 use Rattle.ds_station.specs.Faults.{is_unwritten}
 use Rattle.ds_station.specs.Headline.{Begins, Writes, held_text}
-use Rattle.ds_station.specs.Outcome.{WritesBy}
+use Rattle.ds_station.specs.Inner.Outcome.{WritesBy}
 use Rattle.ds_station.specs.declared.fault.Fault.{Fault}
 use Rattle.ds_station.specs.declared.fault.Fault.TheVariants as fault
 use Rattle.ds_station.proofs.Headlines.{text_alike}

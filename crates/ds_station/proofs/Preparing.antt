@@ -6,8 +6,8 @@ use Rattle.std.specs.Prelude.{IsErrOf, nat_le, nat_lt, ◌&&◌, codes}
 use Rattle.ds_word.specs.ResultBinding.{◌>>=◌}
 use Rattle.ds_policy.specs.Value.{PolicyValue, InputValue}
 use Rattle.ds_policy.specs.Refusal.{PolicyRefusal, bad_toml, limit, bad_rule}
-use Rattle.ds_policy.specs.Refusal as policies
-use Rattle.ds_policy.specs.InputText as events
+use Rattle.ds_policy.specs.Inner.Refusal as policies
+use Rattle.ds_policy.specs.Inner.InputText as events
 use Rattle.ds_policy.specs.InputText.{input_of}
 use Rattle.ds_policy.specs.PolicyText.{policy_of}
 use Rattle.ds_policy.specs.PolicyParts.{sources_of}
@@ -18,8 +18,8 @@ use Rattle.ds_policy.specs.declared.events.fault.EventsFault.TheVariants as even
 use Rattle.ds_pagemap.specs.First.{first_state}
 use Rattle.ds_pagemap.specs.Inputs.{Refusal, Sources, policy_read, input_read, check, images_from, inputs_under_by, inputs_by, inputs_under, inputs}
 use Rattle.ds_pagemap.specs.Inputs as refusal
-use Rattle.ds_station.specs.Faults.{of_policy, of_events, IsStartFault}
-use Rattle.ds_station.specs.Headline.{Refuses, Begins, Loaded, loaded}
+use Rattle.ds_station.specs.Inner.Faults.{of_policy, of_events, IsStartFault}
+use Rattle.ds_station.specs.Headline.{Refuses, Begins, Loaded, loaded_with}
 use Rattle.ds_station.specs.declared.fault.Fault.{Fault}
 use Rattle.ds_station.specs.declared.fault.Fault.TheVariants as fault
 use Rattle.ds_station.proofs.NamedTexts.{refuses_then}
@@ -128,13 +128,13 @@ chain_alike : {X A B : Type 0} (r : Result X Refusal) (g : X → Result A Refusa
 chain_alike (Ok x) g h a b alike is = alike x is
 chain_alike (Err refusal) g h a b alike is = absurd (cc)
 
-pub both_made : (policy : PolicyValue) (s : Sources) (input : List ℕ) (n random : ℕ) (l : Loaded) → inputs_under_by loaded policy s input n random ≡ Ok l → inputs_under policy s input n random ≡ Ok (first_state l.policy l.images l.input)
+pub both_made : (policy : PolicyValue) (s : Sources) (input : List ℕ) (n random : ℕ) (l : Loaded) → inputs_under_by loaded_with policy s input n random ≡ Ok l → inputs_under policy s input n random ≡ Ok (first_state l.policy l.images l.input)
 unfolding inputs_under inputs_under_by
 both_made policy s input n random l is =
     chain_alike (images_from s [] (sources_of policy.pages)) _ _ l _ (λ images.
     chain_alike (input_read (input_of policy.pages input)) _ _ l _ (λ events.
     chain_alike (check (nat_le n 1000000000) (refusal.Limit (codes "n"))) _ _ l _ (λ few.
-    chain_alike (check (nat_le 8 random && nat_lt random 64) refusal.BadRandom) _ _ l _ (λ good made. let it : loaded policy images events ≡ l = cc in ap (λ (x : Loaded). Ok (first_state x.policy x.images x.input)) it)))) is
+    chain_alike (check (nat_le 8 random && nat_lt random 64) refusal.BadRandom) _ _ l _ (λ good made. let it : loaded_with policy images events ≡ l = cc in ap (λ (x : Loaded). Ok (first_state x.policy x.images x.input)) it)))) is
 
 pub refused_by_image : (f : Fault) (policy : PolicyValue) (s : Sources) (input : List ℕ) (n random : ℕ) → Refuses f (images_from s [] (sources_of policy.pages)) → Refuses f (inputs_under policy s input n random)
 unfolding inputs_under

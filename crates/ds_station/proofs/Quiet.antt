@@ -14,15 +14,17 @@ use Rattle.ds_pagemap.proofs.Touches.{touched-log, touched-time, goes_on_touched
 use Rattle.ds_refinement.specs.Held.{Held}
 use Rattle.ds_refinement.specs.Stands.{Stands}
 use Rattle.ds_refinement.specs.Runs.{held_goes_on}
-use Rattle.ds_kernel.specs.Ran.{HasRun}
+use Rattle.ds_kernel.specs.Inner.Ran.{HasRun}
 use Rattle.ds_station.proofs.Runs.{ran_to}
 use Rattle.ds_promise.specs.Quiet.{IsQuiet}
-use Rattle.ds_promise.specs.Twins.{IsTwin, HaveRegisters}
+use Rattle.ds_promise.specs.Twins.{HaveRegisters}
+use Rattle.ds_promise.specs.Inner.Twins.{IsTwin}
 use Rattle.ds_promise.proofs.Runs.{quiet_text, run_alike, goes_on_alike}
 use Rattle.ds_promise.proofs.Inputs.{first_registers, one_first}
 use Rattle.ds_promise.proofs.FirstPages.{made_under}
 use Rattle.ds_station.specs.Headline.{Begins, Writes}
-use Rattle.ds_station.specs.Written.{WritesUntouched, ShowsUntouched}
+use Rattle.ds_station.specs.Written.{WritesUntouched}
+use Rattle.ds_station.specs.Inner.Written.{ShowsUntouched}
 use Rattle.ds_station.proofs.Headlines.{consoles_stand, time_stands}
 
 -- Texts.

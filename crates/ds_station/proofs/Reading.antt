@@ -15,7 +15,7 @@ use Rattle.ds_policy.specs.Pages.{decide}
 use Rattle.ds_grants.specs.State.{GrantsState, frame_of_page, page_state, pages_in}
 use Rattle.ds_grants.specs.Sound.{NamesPages}
 use Rattle.ds_refinement.specs.Held.{Held}
-use Rattle.ds_refinement.specs.Stands.{IsSound}
+use Rattle.ds_refinement.specs.Inner.Stands.{IsSound}
 use Rattle.ds_refinement.proofs.Frames.{word_of_page}
 use Rattle.ds_refinement.proofs.Tallied.{ranges_of}
 use Rattle.ds_kernel.proofs.Fetching.{allowed_page}

@@ -7,23 +7,26 @@ use Rattle.ds_tlb.specs.Singles.{IsSingle}
 use Rattle.ds_cp0.specs.System.{is_user}
 use Rattle.ds_core.specs.Effect.{step}
 use Rattle.ds_refinement.specs.Held.{Held}
-use Rattle.ds_refinement.specs.Stands.{IsSound}
-use Rattle.ds_refinement.specs.Steps.{Moves, Stays}
-use Rattle.ds_refinement.specs.Services.{with_failure}
-use Rattle.ds_refinement.specs.Real.{IsNoBusError, Through}
-use Rattle.ds_refinement.specs.Runs.{RunsTo, RunsWithin, RunsInTime, held_goes_on}
+use Rattle.ds_refinement.specs.Inner.Stands.{IsSound}
+use Rattle.ds_refinement.specs.Steps.{Moves}
+use Rattle.ds_refinement.specs.Inner.Steps.{Stays}
+use Rattle.ds_refinement.specs.Inner.Services.{with_failure}
+use Rattle.ds_refinement.specs.Real.{Through}
+use Rattle.ds_refinement.specs.Inner.Real.{IsNoBusError}
+use Rattle.ds_refinement.specs.Runs.{RunsTo, held_goes_on}
+use Rattle.ds_refinement.specs.Inner.Runs.{RunsWithin, RunsInTime}
 use Rattle.ds_refinement.proofs.Stages.{no_bus_error}
-use Rattle.ds_refinement.specs.Counts.{IsFew}
-use Rattle.ds_refinement.specs.Written.{KeepsWritten}
+use Rattle.ds_refinement.specs.Inner.Counts.{IsFew}
+use Rattle.ds_refinement.specs.Inner.Written.{KeepsWritten}
 use Rattle.ds_refinement.proofs.Staying.{inside_keeps}
 use Rattle.ds_refinement.proofs.Tallied.{failure_stands, few_of}
 use Rattle.ds_refinement.proofs.RunSteps.{within_stays, to_end}
 use Rattle.ds_kernel.specs.declared.halt.Halt.{Halt}
 use Rattle.ds_kernel.specs.declared.halt.Halt.TheVariants as halt
-use Rattle.ds_kernel.specs.Ended.{Does}
-use Rattle.ds_kernel.specs.Halts.{Halts}
-use Rattle.ds_kernel.specs.Ran.{HasRun, WasCut}
-use Rattle.ds_station.specs.Faults.{IsFaultAfter, of_halt}
+use Rattle.ds_kernel.specs.Inner.Ended.{DoesStep}
+use Rattle.ds_kernel.specs.Inner.Halts.{Halts}
+use Rattle.ds_kernel.specs.Inner.Ran.{HasRun, WasCut}
+use Rattle.ds_station.specs.Inner.Faults.{IsFaultAfter, of_halt}
 
 -- a station that is sound has a buffer in which no two entries match
 pub sound_single : (h : Held) → IsSound h → IsSingle h.core.entries
@@ -34,9 +37,9 @@ pub sound_few : (h : Held) → IsSound h → IsFew h.own
 sound_few h s = few_of h s.state s.stands
 
 -- a step inside a unit keeps what the unit has written
-pub does_keep : (kind : Step) (old new : Held) → IsSound old → Does kind old new → kind ≡ Inside → KeepsWritten old new
+pub does_keep : (kind : Step) (old new : Held) → IsSound old → DoesStep kind old new → kind ≡ Inside → KeepsWritten old new
 does_keep kind old new sound does inside =
-    let same : Does Inside old new = subst (λ (k : Step). Does k old new) inside does in
+    let same : DoesStep Inside old new = subst (λ (k : Step). DoesStep k old new) inside does in
     inside_keeps old new sound same.follows same.moves same.real
 
 -- no instruction of a user of a station that is sound meets a bus error

@@ -13,7 +13,8 @@ use Rattle.ds_pagemap_laws.proofs.Processes.{of_settled}
 use Rattle.ds_refinement.specs.Held.{Held, Kept, bare, vacated}
 use Rattle.ds_refinement.specs.Stands.{RunningBy}
 use Rattle.ds_refinement.proofs.Tallied.{unbegun_of}
-use Rattle.ds_station.specs.Reads.{general_held, ShowsGeneral}
+use Rattle.ds_station.specs.Reads.{general_held}
+use Rattle.ds_station.specs.Inner.Reads.{ShowsGeneral}
 
 other_first : (q p : ℕ) (rest : List ℕ) → is_first (first (q ∷ rest)) p ≡ false → p ≢ q
 other_first q p rest not e = grind (arith, nat_tests)

@@ -3,13 +3,9 @@ use Rattle.std.specs.Prelude.{◌≡◌, ℕ, Bool, true, List, Option, Result, 
 use Rattle.std.specs.Io.KnownBytes.{Appends}
 use Rattle.ds_pagemap.specs.Inputs.{Refusal}
 use Rattle.ds_pagemap.specs.Machine.{State}
-use Rattle.ds_pagemap.specs.Run.{Reaches}
-use Rattle.ds_pagemap.specs.Text.{text_of}
-use Rattle.ds_refinement.specs.Held.{Held}
-use Rattle.ds_refinement.specs.Stands.{Stands}
-use Rattle.ds_alone.specs.Alone.{StandsAlone}
+use Rattle.ds_pagemap.specs.Text.{state_text}
 use Rattle.ds_alone.specs.Deeds.{AsksNothing}
-use Rattle.ds_alone.specs.Log.{ShowsMore, ShowsAlone}
+use Rattle.ds_alone.specs.Log.{ShowsAlone}
 use Rattle.ds_alone.specs.Tests.{is_alone, nobody_may_give}
 use Rattle.ds_alone.specs.Touched.{IsQuietAlone}
 
@@ -17,22 +13,10 @@ use Rattle.ds_alone.specs.Touched.{IsQuietAlone}
 pub record WritesAlone (old new : Option (List ℕ)) (p : ℕ) (first : State) : Type 0 where
   pub last : State
   pub shows : ShowsAlone p first last
-  pub written : Appends old new (text_of last)
+  pub written : Appends old new (state_text last)
 
 -- so it is of each process of a first state that was read which is alone there, asks nothing and is quiet, where nobody may give
 abbrev pub WritesEachAlone : Option (List ℕ) → Option (List ℕ) → Result State Refusal → Type 0
 WritesEachAlone old new read =
     (listens : Bool) (p : ℕ) (first : State) → read ≡ Ok first → is_alone listens p first ≡ true → nobody_may_give first ≡ true → AsksNothing listens p first → IsQuietAlone p first
     → WritesAlone old new p first
-
--- a station stands for a state that a run for n from m reaches, and that shows of process p, besides what m shows of it, what it does alone
-pub record StandsShowing (n p : ℕ) (m : State) (h : Held) : Type 0 where
-  pub state : State
-  pub reached : Reaches n m state
-  pub stands : Stands h state
-  pub shows : ShowsMore p m state
-
--- from each machine state that it stood for, in which a quiet process that asks nothing is alone, and nobody may give, it
--- stands for one that shows of that process, besides what was shown, what it does alone
-pub record RunsAlone (n : ℕ) (old new : Held) : Type 0 where
-  pub runs : (listens : Bool) (p : ℕ) (m : State) → Stands old m → StandsAlone listens p m → nobody_may_give m ≡ true → AsksNothing listens p m → IsQuietAlone p m → StandsShowing n p m new

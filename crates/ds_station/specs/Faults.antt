@@ -1,54 +1,24 @@
 -- The faults of a run.
-use Rattle.std.specs.Prelude.{◌≡◌, ◌<◌, ◌≤◌, ◌⊎◌, ℕ, List, Bool, true, false, Result, Err}
-use Rattle.ds_policy.specs.declared.fault.PolicyFault.{PolicyFault}
-use Rattle.ds_policy.specs.declared.fault.PolicyFault.TheVariants as policy
-use Rattle.ds_policy.specs.declared.events.fault.EventsFault.{EventsFault}
-use Rattle.ds_policy.specs.declared.events.fault.EventsFault.TheVariants as events
-use Rattle.ds_asm.specs.declared.fault.AsmFault.{AsmFault}
-use Rattle.ds_asm.specs.declared.fault.AsmFault.TheVariants as asm
+use Rattle.std.specs.Prelude.{◌≡◌, ℕ, Bool, true, false, Result, Err}
 use Rattle.ds_asm.specs.Assembling.{source_fault_number}
 use Rattle.ds_pagemap.specs.Run.{is_over}
 use Rattle.ds_refinement.specs.Held.{Held}
-use Rattle.ds_kernel.specs.declared.halt.Halt.{Halt}
-use Rattle.ds_kernel.specs.declared.halt.Halt.TheVariants as halt
 use Rattle.ds_station.specs.declared.fault.Fault.{Fault}
 use Rattle.ds_station.specs.declared.fault.Fault.TheVariants.{BadRandom, InSource, BadToml, BadRule, Limit, InputFault, Stuck, Failed, WriteFault, NoSource, Memory}
 
 -- the fault's number among the refusals
-abbrev pub number_of : Fault → ℕ
-number_of BadRandom = 1
-number_of (InSource name fault) = source_fault_number fault
-number_of BadToml = 8
-number_of (BadRule rule) = 9
-number_of (Limit key) = 10
-number_of (InputFault line) = 20
-number_of Stuck = 21
-number_of Failed = 22
-number_of WriteFault = 23
-number_of (NoSource name) = 24
-number_of Memory = 25
-
--- what a refusal of the policy is to a run
-abbrev pub of_policy : PolicyFault → Fault
-of_policy policy.BadToml = BadToml
-of_policy (policy.BadRule rule) = BadRule rule
-of_policy (policy.Limit key) = Limit key
-of_policy policy.Memory = Memory
-
--- what a refusal of the input is to a run
-abbrev pub of_events : EventsFault → Fault
-of_events (events.InputFault line) = InputFault line
-of_events events.Memory = Memory
-
--- what the assembler answers for the source of this name is to a run
-abbrev pub in_source : List ℕ → AsmFault → Fault
-in_source name (asm.Source fault) = InSource name fault
-in_source name asm.Memory = Memory
-
--- what a step that is not done is to a run
-abbrev pub of_halt : Halt → Fault
-of_halt halt.Memory = Memory
-of_halt halt.Failed = Failed
+abbrev pub fault_number : Fault → ℕ
+fault_number BadRandom = 1
+fault_number (InSource name fault) = source_fault_number fault
+fault_number BadToml = 8
+fault_number (BadRule rule) = 9
+fault_number (Limit key) = 10
+fault_number (InputFault line) = 20
+fault_number Stuck = 21
+fault_number Failed = 22
+fault_number WriteFault = 23
+fault_number (NoSource name) = 24
+fault_number Memory = 25
 
 -- What is held where the next step is refused by a fault: memory runs out only where no unit is begun.
 abbrev pub RefusesStep : Fault → Held → Type 0
@@ -56,23 +26,7 @@ RefusesStep Memory h = (h.own.failed ≡ false) × (h.own.spent ≡ 0) × (is_ov
 RefusesStep Failed h = h.own.failed ≡ true
 RefusesStep _ h = ⊥
 
--- a fault that comes of a step, and not of an earlier failure
-abbrev pub IsNewFault : Fault → Type 0
-IsNewFault Memory = Unit {0}
-IsNewFault _ = ⊥
-
--- where a failure stands, the answer is that, and else a new fault
-abbrev pub IsFaultAfter : Bool → Fault → Type 0
-IsFaultAfter true f = f ≡ Failed
-IsFaultAfter false f = IsNewFault f
-
 -- whether the answer is that a write failed
 abbrev pub is_unwritten : {T : Type 0} → Result T Fault → Bool
 is_unwritten (Err WriteFault) = true
 is_unwritten result = false
-
--- why a station can't be made with this start of Random
-abbrev pub IsStartFault : ℕ → Fault → Type 0
-IsStartFault start BadRandom = (start < 8) ⊎ (64 ≤ start)
-IsStartFault start Memory = Unit {0}
-IsStartFault start _ = ⊥

@@ -8,7 +8,7 @@ use Rattle.ds_log.specs.Sent.{AppendsPart}
 use Rattle.ds_pagemap.specs.Machine.{State}
 use Rattle.ds_pagemap.specs.First.{first_state}
 use Rattle.ds_pagemap.specs.Run.{Ends, IsPrefix, goes_on}
-use Rattle.ds_pagemap.specs.Text.{text_of}
+use Rattle.ds_pagemap.specs.Text.{state_text}
 use Rattle.ds_pagemap.specs.Inputs.{Refusal, Sources}
 use Rattle.ds_pagemap.specs.Inputs as inputs
 use Rattle.ds_refinement.specs.Held.{Held}
@@ -32,20 +32,20 @@ held_text h = report_text h.kept.state.consoles h.kept.lines h.kept.log h.kept.s
 pub record Writes (old new : Option (List ℕ)) (n : ℕ) (first : State) : Type 0 where
   pub last : State
   pub ends : Ends n first last
-  pub written : Appends old new (text_of last)
+  pub written : Appends old new (state_text last)
 
 -- a run was cut short between two turns, where a turn was still to come, and the text so far is written
 pub record WritesPrefix (old new : Option (List ℕ)) (n : ℕ) (first : State) : Type 0 where
   pub last : State
   pub prefix : IsPrefix n first last
   pub going : goes_on n last ≡ true
-  pub written : Appends old new (text_of last)
+  pub written : Appends old new (state_text last)
 
 -- a prefix of the text is written, of a run that has ended or was cut short between two turns
 pub record WritesPart (old new : Option (List ℕ)) (n : ℕ) (first : State) : Type 0 where
   pub last : State
   pub prefix : IsPrefix n first last
-  pub written : AppendsPart old new (text_of last)
+  pub written : AppendsPart old new (state_text last)
 
 -- the fault is what refuses the inputs; want of memory refuses any
 abbrev pub Refuses : {Y : Type 0} → Fault → Result Y Refusal → Type 0
@@ -60,11 +60,6 @@ Refuses fault.Memory read = Unit {0}
 Refuses fault.Stuck read = ⊥
 Refuses fault.Failed read = ⊥
 Refuses fault.WriteFault read = ⊥
-
--- a value that is returned is, through `seen`, the one that was read; a fault is why there is none
-abbrev pub Reads : {X Y : Type 0} → (X → Y) → Result X Fault → Result Y Refusal → Type 0
-Reads seen (Ok x) read = read ≡ Ok (seen x)
-Reads seen (Err f) read = Refuses f read
 
 -- the inputs were read to a value of which this holds, as the first state of a run and what was written of it
 abbrev pub Begins : {X : Type 0} → Result X Refusal → (X → Type 0) → Type 0
@@ -91,8 +86,8 @@ pub record Loaded : Type 0 where
   pub input : InputValue
 
 -- these three, as they were read
-abbrev pub loaded : PolicyValue → List (List ℕ) → InputValue → Loaded
-loaded policy images input = record { policy = policy; images = images; input = input }
+abbrev pub loaded_with : PolicyValue → List (List ℕ) → InputValue → Loaded
+loaded_with policy images input = record { policy = policy; images = images; input = input }
 
 -- a station is at the beginning of a run with these, and Random is the start
 abbrev pub BeginsWith : ℕ → Held → Loaded → Type 0

@@ -1,6 +1,4 @@
 pub mod Faults
-pub mod Station
-pub mod Runs
 pub mod Along
 pub mod Headline
 pub mod Written
@@ -8,3 +6,4 @@ pub mod Reads
 pub mod Alone
 pub mod Outcome
 pub mod Pieces
+pub mod Inner

@@ -1,11 +1,6 @@
 -- What a run came to: the first process that has not ended, and the station of a run whose text is written.
-use Rattle.std.specs.Prelude.{◌≡◌, ℕ, zero, suc, ◌+◌, if◌then◌else◌, List, length, Option, Some, None}
-use Rattle.std.specs.Io.KnownBytes.{Appends}
+use Rattle.std.specs.Prelude.{ℕ, zero, suc, ◌+◌, if◌then◌else◌, length, Option, Some, None}
 use Rattle.ds_pagemap.specs.Machine.{State, has_ended, process_of}
-use Rattle.ds_pagemap.specs.Run.{Ends}
-use Rattle.ds_pagemap.specs.Text.{text_of}
-use Rattle.ds_refinement.specs.Held.{Held}
-use Rattle.ds_refinement.specs.Stands.{Stands}
 use Rattle.ds_station.specs.declared.outcome.Unended.{Unended}
 
 -- the first of so many processes, the first of which has this number, that has not ended
@@ -17,10 +12,3 @@ unended_from m p (suc n) =
 -- the first of all that has not ended
 abbrev pub first_unended : State → Option Unended
 first_unended m = unended_from m 1 (length m.processes)
-
--- a run for n from the first state has ended in a state that the station stands for, and its text is written
-pub record WritesBy (h : Held) (old new : Option (List ℕ)) (n : ℕ) (first : State) : Type 0 where
-  pub last : State
-  pub ends : Ends n first last
-  pub stands : Stands h last
-  pub written : Appends old new (text_of last)

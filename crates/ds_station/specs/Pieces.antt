@@ -1,16 +1,11 @@
 -- A run in pieces, and a bound of what it may write.
-use Rattle.std.specs.Prelude.{◌≡◌, ◌<◌, ◌≤◌, ◌⊎◌, ℕ, ◌+◌, ◌*◌, false, List, [], length, slice_index_or, flat_map, Option, None}
-use Rattle.std.specs.Io.KnownBytes.{Appends}
+use Rattle.std.specs.Prelude.{◌≡◌, ◌<◌, ◌≤◌, ◌⊎◌, ℕ, ◌+◌, ◌*◌, false, List, [], length, slice_index_or, flat_map, None}
 use Rattle.ds_log.specs.Text.{line_text}
 use Rattle.ds_pagemap.specs.Machine.{State}
-use Rattle.ds_pagemap.specs.Run.{Reaches}
-use Rattle.ds_pagemap.specs.Text.{text_of}
 use Rattle.ds_refinement.specs.Held.{Held}
 use Rattle.ds_refinement.specs.Real.{RealPath}
 use Rattle.ds_refinement.specs.Runs.{RunsTo, held_goes_on}
-use Rattle.ds_refinement.specs.Stands.{Stands}
 use Rattle.ds_station.specs.Headline.{BeginsWith, Loaded}
-use Rattle.ds_station.specs.Outcome.{WritesBy}
 use Rattle.ds_station.specs.declared.pieces.Extent.{Extent}
 use Rattle.ds_station.specs.declared.pieces.Extent.TheVariants.{Whole, TooMuch}
 
@@ -23,8 +18,8 @@ abbrev pub size_by : List (List ℕ) → List ℕ → ℕ
 size_by consoles log = console_size consoles 0 + console_size consoles 1 + console_size consoles 2 + console_size consoles 3 + length log
 
 -- how many those of a state have
-abbrev pub size_of : State → ℕ
-size_of m = size_by m.consoles (flat_map line_text m.log)
+abbrev pub size_of_state : State → ℕ
+size_of_state m = size_by m.consoles (flat_map line_text m.log)
 
 -- and those that a station holds
 abbrev pub size_held : Held → ℕ
@@ -57,33 +52,13 @@ pub record IsOverWithin (n most : ℕ) (old new : Held) : Type 0 where
   pub few : size_held new ≤ most
 
 -- one of the two, by how far it went
-abbrev pub ComesTo : Extent → ℕ → ℕ → Held → Held → Type 0
-ComesTo Whole = IsOverWithin
-ComesTo TooMuch = PassesIn
-
--- a run for n from the first state was left between two turns, in a state with more bytes than these for which the station
--- stands, and its text so far is written
-pub record WritesTooMuch (most : ℕ) (h : Held) (old new : Option (List ℕ)) (n : ℕ) (first : State) : Type 0 where
-  pub last : State
-  pub reached : Reaches n first last
-  pub whole : last.owed ≡ None
-  pub much : most < size_of last
-  pub stands : Stands h last
-  pub written : Appends old new (text_of last)
-
--- it has ended with no more bytes than these, and its text is written
-pub record WritesWithin (most : ℕ) (h : Held) (old new : Option (List ℕ)) (n : ℕ) (first : State) : Type 0 where
-  pub by : WritesBy h old new n first
-  pub few : size_of by.last ≤ most
-
--- one of the two, by how far it went
-abbrev pub WritesUpTo : Extent → ℕ → Held → Option (List ℕ) → Option (List ℕ) → ℕ → State → Type 0
-WritesUpTo Whole = WritesWithin
-WritesUpTo TooMuch = WritesTooMuch
+abbrev pub PieceComesTo : Extent → ℕ → ℕ → Held → Held → Type 0
+PieceComesTo Whole = IsOverWithin
+PieceComesTo TooMuch = PassesIn
 
 -- a station that began with these, Random at the start, came so far by real steps
 pub record ComesReally (extent : Extent) (n most start : ℕ) (h : Held) (l : Loaded) : Type 0 where
   pub first : Held
   pub begins : BeginsWith start first l
   pub path : RealPath first h
-  pub comes : ComesTo extent n most first h
+  pub comes : PieceComesTo extent n most first h

@@ -1,5 +1,5 @@
 -- What a station shows of its processes, and of its processor, by what it holds.
-use Rattle.std.specs.Prelude.{◌≡◌, ℕ, ◌+◌, ◌==◌, ◌&&◌, Bool, not, if◌then◌else◌, List, Option, Some, None}
+use Rattle.std.specs.Prelude.{ℕ, ◌+◌, ◌==◌, ◌&&◌, Bool, not, if◌then◌else◌, List, Option, Some, None}
 use Rattle.ds_word.specs.Word.{word}
 use Rattle.ds_word.specs.Bytes.{word_at}
 use Rattle.ds_isa.specs.declared.instr.Size.TheVariants.{Word}
@@ -13,11 +13,10 @@ use Rattle.ds_grants.specs.State.{page_state}
 use Rattle.ds_cp0.specs.System.{is_user}
 use Rattle.ds_core.specs.Core.{CoreState}
 use Rattle.ds_pagemap.specs.declared.turn.Turn.{Turn}
-use Rattle.ds_pagemap.specs.Machine.{State, process_of, first}
+use Rattle.ds_pagemap.specs.Machine.{process_of, first}
 use Rattle.ds_pagemap.specs.Boundary.{is_first}
 use Rattle.ds_refinement.specs.Held.{Held}
 use Rattle.ds_refinement.specs.Units.{is_served, has_left_user}
-use Rattle.ds_refinement.specs.Stands.{Stands}
 use Rattle.ds_station.specs.declared.stage.Stage.{Stage}
 use Rattle.ds_station.specs.declared.stage.Stage.TheVariants as stage
 
@@ -61,10 +60,6 @@ hi_held h p = if is_first (first h.kept.state.ready) p then h.core.registers.hi 
 -- LO of a process, from the same places
 abbrev pub lo_held : Held → ℕ → ℕ
 lo_held h p = if is_first (first h.kept.state.ready) p then h.core.registers.lo else (process_of h.kept.state p).registers.lo
-
--- while no instruction of a unit is counted, its general registers are those of the process in each machine state that the station stands for
-abbrev pub ShowsGeneral : List ℕ → Held → ℕ → Type 0
-ShowsGeneral shown h p = h.own.spent ≡ 0 → (m : State) → Stands h m → shown ≡ (process_of m p).registers.general
 
 -- What the next step is to the processor.
 

@@ -1,14 +1,11 @@
 -- What is written of a run, in the words of its user.
-use Rattle.std.specs.Prelude.{◌≡◌, ◌⊎◌, ◌++◌, ℕ, true, false, List, length, flat_map, replicate, Option, Result, None}
+use Rattle.std.specs.Prelude.{◌≡◌, ◌⊎◌, ◌++◌, ℕ, true, false, List, replicate, Option, Result, None}
 use Rattle.std.specs.Io.KnownBytes.{Appends, Keeps}
 use Rattle.ds_log.specs.Sent.{AppendsPart}
-use Rattle.ds_log.specs.Text.{line_text}
 use Rattle.ds_pagemap.specs.Machine.{State}
 use Rattle.ds_pagemap.specs.Run.{goes_on, after, Reaches}
-use Rattle.ds_pagemap.specs.Text.{text_of}
+use Rattle.ds_pagemap.specs.Text.{state_text}
 use Rattle.ds_pagemap.specs.Inputs.{Refusal}
-use Rattle.ds_refinement.specs.Held.{Held}
-use Rattle.ds_refinement.specs.Stands.{Stands}
 use Rattle.ds_promise.specs.Stores.{OnlyStoresAlong}
 use Rattle.ds_promise.specs.Whole.{HasWholePages, ChangesAsGrantedAlong}
 use Rattle.ds_promise.specs.Lines.{lines_along}
@@ -34,7 +31,7 @@ pub record WritesGuarded (old new : Option (List ℕ)) (n : ℕ) (first : State)
   pub last : State
   pub way : IsGuardedFromFirst n first last
   pub over : goes_on n last ≡ false
-  pub written : Appends old new (text_of last)
+  pub written : Appends old new (state_text last)
 
 -- a guarded run from a first state with whole pages has ended, and its text is written
 abbrev pub WritesWholeGuarded : Option (List ℕ) → Option (List ℕ) → ℕ → State → Type 0
@@ -46,14 +43,14 @@ pub record WritesGuardedPrefix (old new : Option (List ℕ)) (n : ℕ) (first : 
   pub way : IsGuardedFromFirst n first last
   pub whole : last.owed ≡ None
   pub going : goes_on n last ≡ true
-  pub written : Appends old new (text_of last)
+  pub written : Appends old new (state_text last)
 
 -- a guarded run has ended or was cut short between two turns, and a prefix of its text is written
 pub record WritesGuardedPart (old new : Option (List ℕ)) (n : ℕ) (first : State) : Type 0 where
   pub last : State
   pub way : IsGuardedFromFirst n first last
   pub whole : last.owed ≡ None
-  pub written : AppendsPart old new (text_of last)
+  pub written : AppendsPart old new (state_text last)
 
 -- where a run was cut short, or its text was, what is written is that of a guarded run
 abbrev pub EndsGuarded : Fault → Result State Refusal → Option (List ℕ) → Option (List ℕ) → ℕ → Type 0
@@ -65,17 +62,4 @@ EndsGuarded f read old new n = Keeps old new
 pub record WritesUntouched (old new : Option (List ℕ)) (n : ℕ) (first : State) : Type 0 where
   pub halves : ℕ
   pub over : goes_on n (after n (replicate halves false) first) ≡ false
-  pub written : Appends old new (text_of (after n (replicate halves false) first))
-
--- from each machine state that the station stood for, a guarded way leads to one that it stands for now
-pub record RunsGuarded (n : ℕ) (old new : Held) : Type 0 where
-  pub runs : (m : State) → Stands old m → (t : State) × IsGuarded n m t × Stands new t
-
--- a station shows the consoles, the log and the time at which the run for n from m that never touches is over
-pub record ShowsUntouched (n : ℕ) (m : State) (h : Held) : Type 0 where
-  pub halves : ℕ
-  pub over : goes_on n (after n (replicate halves false) m) ≡ false
-  pub consoles : h.kept.state.consoles ≡ (after n (replicate halves false) m).consoles
-  pub lines : h.kept.lines ≡ length (after n (replicate halves false) m).log
-  pub log : h.kept.log ≡ flat_map line_text (after n (replicate halves false) m).log
-  pub time : h.kept.state.time ≡ (after n (replicate halves false) m).time
+  pub written : Appends old new (state_text (after n (replicate halves false) first))

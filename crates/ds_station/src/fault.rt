@@ -1,6 +1,7 @@
 //! Why a run is refused, or ends early.
 ghost use Rattle.std.specs.Prelude.{◌≡◌};
-ghost use Rattle.ds_station.specs.Faults.{number_of, of_policy, of_events, of_halt, in_source};
+ghost use Rattle.ds_station.specs.Faults.{fault_number};
+ghost use Rattle.ds_station.specs.Inner.Faults.{of_policy, of_events, of_halt, in_source};
 ghost use Rattle.ds_station.specs.declared.fault.Fault.TheVariants as fault;
 
 use ds_asm::{AsmFault, SourceFault};
@@ -61,7 +62,7 @@ impl fmt::Debug for Fault {
 impl Fault {
     /// The fault's number among the refusals.
     pub fn number(&self) -> u32
-        ensures { result ≡ number_of self.now }
+        ensures { result ≡ fault_number self.now }
     {
         match self {
             Fault::BadRandom => 1,

@@ -23,33 +23,11 @@ ghost use Rattle.std.specs.Prelude.{
 ghost use Rattle.std.specs.Io.KnownBytes.{Appends};
 ghost use Rattle.ds_policy.specs.PolicyParts.{sources_of};
 ghost use Rattle.ds_log.specs.Sent.{AppendsPart, IsAskedOnce};
-ghost use Rattle.ds_pagemap.specs.Inputs.{
-  Refusal,
-  inputs,
-  inputs_by,
-  inputs_under,
-  inputs_under_by,
-  text_named,
-  image_read,
-  images_from,
-};
-ghost use Rattle.ds_refinement.specs.Stands.{IsSound, Stands};
-ghost use Rattle.ds_station.specs.Headline.{
-  Writes,
-  WritesReally,
-  Begins,
-  BeginsWith,
-  Reads,
-  Refuses,
-  EndsBy,
-  EndsReally,
-  Along,
-  Followed,
-  IsRefused,
-  held_text,
-  loaded,
-  sources_seen,
-};
+ghost use Rattle.ds_pagemap.specs.Inputs.{Refusal, inputs, inputs_by, inputs_under, inputs_under_by, text_named, image_read, images_from};
+ghost use Rattle.ds_refinement.specs.Stands.{Stands};
+ghost use Rattle.ds_refinement.specs.Inner.Stands.{IsSound};
+ghost use Rattle.ds_station.specs.Headline.{Writes, WritesReally, Begins, BeginsWith, Refuses, EndsBy, EndsReally, Along, Followed, IsRefused, held_text, loaded_with, sources_seen};
+ghost use Rattle.ds_station.specs.Inner.Headline.{Reads};
 ghost use Rattle.ds_pagemap.specs.Machine.{State};
 ghost use Rattle.ds_policy.specs.PolicyFacts.{IsGoodPolicy};
 ghost use Rattle.ds_promise.specs.Quiet.{IsQuiet};
@@ -58,13 +36,8 @@ ghost use Rattle.ds_alone.specs.Tests.{is_alone, nobody_may_give};
 ghost use Rattle.ds_alone.specs.Touched.{IsQuietAlone};
 ghost use Rattle.ds_station.specs.Alone.{WritesAlone};
 ghost use Rattle.ds_station.specs.Faults.{is_unwritten};
-ghost use Rattle.ds_station.specs.Outcome.{WritesBy};
-ghost use Rattle.ds_station.specs.Written.{
-  WritesUntouched,
-  WritesGuarded,
-  WritesWholeGuarded,
-  EndsGuarded,
-};
+ghost use Rattle.ds_station.specs.Inner.Outcome.{WritesBy};
+ghost use Rattle.ds_station.specs.Written.{WritesUntouched, WritesGuarded, WritesWholeGuarded, EndsGuarded};
 
 use crate::fault::Fault;
 use crate::station::Station;
@@ -132,7 +105,7 @@ pub fn prepare(
     ensures ok { IfOk result (λ s. Begins
         (inputs_under policy.now (sources_seen sources.now) input.now n random) (Stands s.held)) }
     ensures real { IfOk result (λ s. Begins
-        (inputs_under_by loaded policy.now (sources_seen sources.now) input.now n random)
+        (inputs_under_by loaded_with policy.now (sources_seen sources.now) input.now n random)
         (BeginsWith random s.held)) }
     ensures sound { IfOk result (λ s. IsSound s.held) }
     ensures working { IfOk result (λ s. s.held.own.failed ≡ false) }
@@ -208,13 +181,13 @@ pub fn run_files<O: Output>(
         (inputs policy.now (sources_seen sources.now) input.now n random)
         (Writes (O.contents out.old) (O.contents out.new) n)) }
     ensures real { OnOk result (Begins
-        (inputs_by loaded policy.now (sources_seen sources.now) input.now n random)
+        (inputs_by loaded_with policy.now (sources_seen sources.now) input.now n random)
         (WritesReally Along (O.contents out.old) (O.contents out.new) n random)) }
     ensures err { IfErr result (λ f. EndsBy f
         (inputs policy.now (sources_seen sources.now) input.now n random)
         (O.contents out.old) (O.contents out.new) n) }
     ensures cut { IfErr result (λ f. EndsReally Along f
-        (inputs_by loaded policy.now (sources_seen sources.now) input.now n random)
+        (inputs_by loaded_with policy.now (sources_seen sources.now) input.now n random)
         (O.contents out.old) (O.contents out.new) n random) }
     ensures refused { (refusal : Refusal)
         → inputs policy.now (sources_seen sources.now) input.now n random ≡ Err refusal
@@ -235,10 +208,10 @@ pub fn run_files<O: Output>(
         → AsksNothing listens p first → IsQuietAlone p first
         → OnOk result (WritesAlone (O.contents out.old) (O.contents out.new) p first) }
     ensures followed { OnOk result (Begins
-        (inputs_by loaded policy.now (sources_seen sources.now) input.now n random)
+        (inputs_by loaded_with policy.now (sources_seen sources.now) input.now n random)
         (WritesReally Followed (O.contents out.old) (O.contents out.new) n random)) }
     ensures followed_so_far { IfErr result (λ f. EndsReally Followed f
-        (inputs_by loaded policy.now (sources_seen sources.now) input.now n random)
+        (inputs_by loaded_with policy.now (sources_seen sources.now) input.now n random)
         (O.contents out.old) (O.contents out.new) n random) }
     ensures once { IsAskedOnce (O.answers out.old) (O.answers out.new) (is_unwritten result) }
 {
@@ -263,13 +236,13 @@ pub fn run_policy<O: Output>(
         (inputs_under policy.now (sources_seen sources.now) input.now n random)
         (Writes (O.contents out.old) (O.contents out.new) n)) }
     ensures real { OnOk result (Begins
-        (inputs_under_by loaded policy.now (sources_seen sources.now) input.now n random)
+        (inputs_under_by loaded_with policy.now (sources_seen sources.now) input.now n random)
         (WritesReally Along (O.contents out.old) (O.contents out.new) n random)) }
     ensures err { IfErr result (λ f. EndsBy f
         (inputs_under policy.now (sources_seen sources.now) input.now n random)
         (O.contents out.old) (O.contents out.new) n) }
     ensures cut { IfErr result (λ f. EndsReally Along f
-        (inputs_under_by loaded policy.now (sources_seen sources.now) input.now n random)
+        (inputs_under_by loaded_with policy.now (sources_seen sources.now) input.now n random)
         (O.contents out.old) (O.contents out.new) n random) }
     ensures refused { (refusal : Refusal)
         → inputs_under policy.now (sources_seen sources.now) input.now n random ≡ Err refusal
@@ -290,10 +263,10 @@ pub fn run_policy<O: Output>(
         → AsksNothing listens p first → IsQuietAlone p first
         → OnOk result (WritesAlone (O.contents out.old) (O.contents out.new) p first) }
     ensures followed { OnOk result (Begins
-        (inputs_under_by loaded policy.now (sources_seen sources.now) input.now n random)
+        (inputs_under_by loaded_with policy.now (sources_seen sources.now) input.now n random)
         (WritesReally Followed (O.contents out.old) (O.contents out.new) n random)) }
     ensures followed_so_far { IfErr result (λ f. EndsReally Followed f
-        (inputs_under_by loaded policy.now (sources_seen sources.now) input.now n random)
+        (inputs_under_by loaded_with policy.now (sources_seen sources.now) input.now n random)
         (O.contents out.old) (O.contents out.new) n random) }
     ensures once { IsAskedOnce (O.answers out.old) (O.answers out.new) (is_unwritten result) }
 {
@@ -319,13 +292,13 @@ pub fn run_station<O: Output>(
         (inputs_under policy.now (sources_seen sources.now) input.now n random)
         (WritesBy s.held (O.contents out.old) (O.contents out.new) n)) }
     ensures real { OnOk result (Begins
-        (inputs_under_by loaded policy.now (sources_seen sources.now) input.now n random)
+        (inputs_under_by loaded_with policy.now (sources_seen sources.now) input.now n random)
         (WritesReally Along (O.contents out.old) (O.contents out.new) n random)) }
     ensures err { IfErr result (λ f. EndsBy f
         (inputs_under policy.now (sources_seen sources.now) input.now n random)
         (O.contents out.old) (O.contents out.new) n) }
     ensures cut { IfErr result (λ f. EndsReally Along f
-        (inputs_under_by loaded policy.now (sources_seen sources.now) input.now n random)
+        (inputs_under_by loaded_with policy.now (sources_seen sources.now) input.now n random)
         (O.contents out.old) (O.contents out.new) n random) }
     ensures refused { (refusal : Refusal)
         → inputs_under policy.now (sources_seen sources.now) input.now n random ≡ Err refusal
@@ -346,10 +319,10 @@ pub fn run_station<O: Output>(
         → AsksNothing listens p first → IsQuietAlone p first
         → OnOk result (WritesAlone (O.contents out.old) (O.contents out.new) p first) }
     ensures followed { OnOk result (Begins
-        (inputs_under_by loaded policy.now (sources_seen sources.now) input.now n random)
+        (inputs_under_by loaded_with policy.now (sources_seen sources.now) input.now n random)
         (WritesReally Followed (O.contents out.old) (O.contents out.new) n random)) }
     ensures followed_so_far { IfErr result (λ f. EndsReally Followed f
-        (inputs_under_by loaded policy.now (sources_seen sources.now) input.now n random)
+        (inputs_under_by loaded_with policy.now (sources_seen sources.now) input.now n random)
         (O.contents out.old) (O.contents out.new) n random) }
     ensures once { IsAskedOnce (O.answers out.old) (O.answers out.new) (is_unwritten result) }
 {

@@ -3,12 +3,15 @@ ghost use Rattle.std.specs.Prelude.{◌≡◌, ◌≤◌, Err, IfErr, IfOk, None
 ghost use Rattle.ds_log.specs.Sent.{IsAskedOnce};
 ghost use Rattle.ds_pagemap.specs.Inputs.{Refusal, inputs_under, inputs_under_by};
 ghost use Rattle.ds_refinement.specs.Real.{RealPath};
-ghost use Rattle.ds_refinement.specs.Runs.{RunsWithin, held_goes_on};
-ghost use Rattle.ds_refinement.specs.Stands.{IsSound};
-ghost use Rattle.ds_station.specs.Faults.{IsFaultAfter, is_unwritten};
-ghost use Rattle.ds_station.specs.Headline.{Begins, EndsBy, IsRefused, loaded, sources_seen};
-ghost use Rattle.ds_station.specs.Pieces.{ComesReally, ComesTo, WritesUpTo, size_held};
-ghost use Rattle.ds_station.specs.Runs.{IsCut};
+ghost use Rattle.ds_refinement.specs.Runs.{held_goes_on};
+ghost use Rattle.ds_refinement.specs.Inner.Runs.{RunsWithin};
+ghost use Rattle.ds_refinement.specs.Inner.Stands.{IsSound};
+ghost use Rattle.ds_station.specs.Faults.{is_unwritten};
+ghost use Rattle.ds_station.specs.Inner.Faults.{IsFaultAfter};
+ghost use Rattle.ds_station.specs.Headline.{Begins, EndsBy, IsRefused, loaded_with, sources_seen};
+ghost use Rattle.ds_station.specs.Pieces.{ComesReally, PieceComesTo, size_held};
+ghost use Rattle.ds_station.specs.Inner.Pieces.{WritesUpTo};
+ghost use Rattle.ds_station.specs.Inner.Runs.{IsCut};
 
 use crate::fault::Fault;
 use crate::files::{deliver, prepare};
@@ -54,7 +57,7 @@ impl<L: Lookaside> Station<L> {
     /// over by then: it was left between two turns. Else it is over, and no more bytes were written.
     pub fn run_at_most(&mut self, n: u64, most: u64) -> Result<Extent, Fault>
         requires { n ≤ 1000000000 }
-        ensures ok { IfOk result (λ extent. ComesTo extent n most self.old.held self.new.held) }
+        ensures ok { IfOk result (λ extent. PieceComesTo extent n most self.old.held self.new.held) }
         ensures within { RunsWithin n self.old.held self.new.held }
         ensures real { OnOk result (RealPath self.old.held self.new.held) }
         ensures cut { IfErr result (λ f. IsCut f self.old.held self.new.held) }
@@ -101,7 +104,7 @@ pub fn run_station_at_most<O: Output>(
         (inputs_under policy.now (sources_seen sources.now) input.now n random)
         (WritesUpTo b.extent most b.station.held (O.contents out.old) (O.contents out.new) n)) }
     ensures real { IfOk result (λ b. Begins
-        (inputs_under_by loaded policy.now (sources_seen sources.now) input.now n random)
+        (inputs_under_by loaded_with policy.now (sources_seen sources.now) input.now n random)
         (ComesReally b.extent n most random b.station.held)) }
     ensures err { IfErr result (λ f. EndsBy f
         (inputs_under policy.now (sources_seen sources.now) input.now n random)

@@ -7,7 +7,8 @@ ghost use Rattle.ds_procs.specs.declared.process.Standing.TheVariants.{Ready};
 ghost use Rattle.ds_refinement.specs.Held.{last_boundary};
 ghost use Rattle.ds_refinement.specs.Units.{has_left_user};
 ghost use Rattle.ds_refinement.specs.Stands.{Stands};
-ghost use Rattle.ds_station.specs.Reads.{address_held, fetched, general_held, hi_held, is_at, lo_held, memory_held, stage_in_unit, stage_of, unit_on, word_for, word_read, ShowsGeneral};
+ghost use Rattle.ds_station.specs.Reads.{address_held, fetched, general_held, hi_held, is_at, lo_held, memory_held, stage_in_unit, stage_of, unit_on, word_for, word_read};
+ghost use Rattle.ds_station.specs.Inner.Reads.{ShowsGeneral};
 
 use crate::stage::Stage;
 use crate::station::Station;

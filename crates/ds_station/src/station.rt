@@ -29,19 +29,24 @@ ghost use Rattle.ds_policy.specs.InputFacts.{AreGoodCommands};
 ghost use Rattle.ds_pagemap.specs.Machine.{State};
 ghost use Rattle.ds_pagemap.specs.First.{first_state};
 ghost use Rattle.ds_refinement.specs.First.{IsFirst};
-ghost use Rattle.ds_refinement.specs.Counts.{IsFew};
-ghost use Rattle.ds_refinement.specs.Stands.{Stands, IsSound};
-ghost use Rattle.ds_refinement.specs.Steps.{Follows, Stays, Moves};
-ghost use Rattle.ds_refinement.specs.Real.{IsNoBusError, IsReal, RealPath};
-ghost use Rattle.ds_refinement.specs.Services.{with_failure};
-ghost use Rattle.ds_refinement.specs.Written.{KeepsWritten};
-ghost use Rattle.ds_refinement.specs.Runs.{RunsTo, RunsInTime, RunsWithin, held_goes_on};
-ghost use Rattle.ds_station.specs.Faults.{IsFaultAfter, IsStartFault, RefusesStep};
-ghost use Rattle.ds_station.specs.Runs.{IsCut};
-ghost use Rattle.ds_station.specs.Alone.{RunsAlone};
+ghost use Rattle.ds_refinement.specs.Inner.Counts.{IsFew};
+ghost use Rattle.ds_refinement.specs.Stands.{Stands};
+ghost use Rattle.ds_refinement.specs.Inner.Stands.{IsSound};
+ghost use Rattle.ds_refinement.specs.Steps.{Follows, Moves};
+ghost use Rattle.ds_refinement.specs.Inner.Steps.{Stays};
+ghost use Rattle.ds_refinement.specs.Real.{IsReal, RealPath};
+ghost use Rattle.ds_refinement.specs.Inner.Real.{IsNoBusError};
+ghost use Rattle.ds_refinement.specs.Inner.Services.{with_failure};
+ghost use Rattle.ds_refinement.specs.Inner.Written.{KeepsWritten};
+ghost use Rattle.ds_refinement.specs.Runs.{RunsTo, held_goes_on};
+ghost use Rattle.ds_refinement.specs.Inner.Runs.{RunsInTime, RunsWithin};
+ghost use Rattle.ds_station.specs.Faults.{RefusesStep};
+ghost use Rattle.ds_station.specs.Inner.Faults.{IsFaultAfter, IsStartFault};
+ghost use Rattle.ds_station.specs.Inner.Runs.{IsCut};
+ghost use Rattle.ds_station.specs.Inner.Alone.{RunsAlone};
 ghost use Rattle.ds_promise.specs.Quiet.{IsQuiet};
 ghost use Rattle.ds_promise.specs.Twins.{HaveRegisters};
-ghost use Rattle.ds_station.specs.Written.{RunsGuarded, ShowsUntouched};
+ghost use Rattle.ds_station.specs.Inner.Written.{RunsGuarded, ShowsUntouched};
 
 use crate::fault::Fault;
 use ds_asm::Image;
@@ -59,7 +64,7 @@ pub struct Station<L: Lookaside> {
 }
 
 impl<L: Lookaside> Model for Station<L> {
-    ghost use Rattle.ds_station.specs.Station.{IsStation, StationValue, value_of};
+    ghost use Rattle.ds_station.specs.Inner.Station.{IsStation, StationValue, value_of};
 
     ghost Value = { StationValue };
 
@@ -100,7 +105,7 @@ impl<L: Lookaside> Station<L> {
 
     /// The program stands at an address of 32 bits.
     #[inline(always)]
-    fn look_at_program(&self)
+    fn show_pc_has_32_bits(&self)
         ensures { self.now.held.core.pc < 2 ^ 32 }
     {
         let _here = self.parts.core.pc;
@@ -141,7 +146,7 @@ impl<L: Lookaside> Station<L> {
         ensures full { self.old.room ≡ true → self.old.held.own.failed ≡ false → IsOk result }
         ensures short { self.old.held.own.failed ≡ false → OnErr result (self.new.room ≡ false) }
     {
-        self.look_at_program();
+        self.show_pc_has_32_bits();
         Ok(self.parts.step()?)
     }
 

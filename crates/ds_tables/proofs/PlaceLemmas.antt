@@ -9,7 +9,8 @@ use Rattle.std.proofs.lemmas.List.Elements.{All-set, All-replicate}
 use Rattle.std.proofs.lemmas.List.Quantifiers.{position-Some}
 use Rattle.std.proofs.lemmas.List.Folds.{position_or_len-set}
 use Rattle.std.proofs.lemmas.List.Sums.{prefix_len-le-length}
-use Rattle.ds_tables.specs.Places.{Places, ArePlaces, holds, is_free, freed, places_of, place_of, free_place, table_frame, frame_of_place, page_of_table, with_place, closed}
+use Rattle.ds_tables.specs.Places.{Places, ArePlaces, holds, places_of, region_place, table_frame, frame_of_place, page_of_table}
+use Rattle.ds_tables.specs.Inner.Places.{is_free, freed, free_place, with_place, closed}
 
 -- Who has places.
 
@@ -57,7 +58,7 @@ pub record IsPlace (t : Places) (p region place : ℕ) : Type 0 where
   pub within : place < 4
   pub held : get_or (places_of t p) place None ≡ Some region
 
-pub is_place : (t : Places) (p region place : ℕ) → ArePlaces t → place_of t p region ≡ Some place → IsPlace t p region place
+pub is_place : (t : Places) (p region place : ℕ) → ArePlaces t → region_place t p region ≡ Some place → IsPlace t p region place
 is_place t p region place k at =
     let there = position-Some (holds region) (places_of t p) place None at in
     let below = there.0 in
@@ -102,7 +103,7 @@ none_some : (x : ℕ) → ◌≡◌ {A = Option ℕ} None (Some x) → ⊥
 none_some x e = absurd cc
 
 -- the frame of a place is that of no other process, and of no other region
-pub one_region : (t : Places) (p q r s i : ℕ) (o : Option ℕ) → ArePlaces t → IsPlace t p r i → place_of t q s ≡ o → frame_of_place q o ≡ table_frame p i → (q ≡ p) × (s ≡ r)
+pub one_region : (t : Places) (p q r s i : ℕ) (o : Option ℕ) → ArePlaces t → IsPlace t p r i → region_place t q s ≡ o → frame_of_place q o ≡ table_frame p i → (q ≡ p) × (s ≡ r)
 one_region t p q r s i None k here at e = absurd (omega arith)
 one_region t p q r s i (Some j) k here at e =
     let there = is_place t q s j k at in
@@ -116,7 +117,7 @@ one_region t p q r s i (Some j) k here at e =
     (owner, some_alike s r (sym there.held ∙ (same ∙ here.held)))
 
 -- the frame of a place where no table stands is that of no table
-pub unused_frame : (t : Places) (p q s i : ℕ) (o : Option ℕ) → ArePlaces t → IsFree t p i → place_of t q s ≡ o → frame_of_place q o ≢ table_frame p i
+pub unused_frame : (t : Places) (p q s i : ℕ) (o : Option ℕ) → ArePlaces t → IsFree t p i → region_place t q s ≡ o → frame_of_place q o ≢ table_frame p i
 unused_frame t p q s i None k here at = λ (e : ◌≡◌ {A = ℕ} 1 (table_frame p i)). omega arith
 unused_frame t p q s i (Some j) k here at = λ (e : ◌≡◌ {A = ℕ} (table_frame q j) (table_frame p i)).
     let there = is_place t q s j k at in
@@ -190,15 +191,15 @@ foreign_places t p q row low apart = elim (cases_eq q 0) [
 ]
 
 -- a region that had no table has the place
-pub place_of-new : (t : Places) (p k r : ℕ) → ArePlaces t → IsFree t p k → place_of t p r ≡ None → place_of (with_place t p k r) p r ≡ Some k
-place_of-new t p k r are free none =
+pub region_place-new : (t : Places) (p k r : ℕ) → ArePlaces t → IsFree t p k → region_place t p r ≡ None → region_place (with_place t p k r) p r ≡ Some k
+region_place-new t p k r are free none =
     let four = four_places t p are free.low free.high in
     let small = free.within in
     ap (position (holds r)) (own_places t p k r free) ∙ opened_place r (places_of t p) k none (omega arith)
 
 -- each other region keeps its place
-pub place_of-other : (t : Places) (p q k r s : ℕ) → IsFree t p k → (q ≡ p → s ≡ r → ⊥) → place_of (with_place t p k r) q s ≡ place_of t q s
-place_of-other t p q k r s free apart = elim (cases_eq q p) [
+pub region_place-other : (t : Places) (p q k r s : ℕ) → IsFree t p k → (q ≡ p → s ≡ r → ⊥) → region_place (with_place t p k r) q s ≡ region_place t q s
+region_place-other t p q k r s free apart = elim (cases_eq q p) [
   | inl own ↦ rw own (ap (position (holds s)) (own_places t p k r free) ∙ other_place r s (places_of t p) k (λ (e : ◌≡◌ {A = ℕ} s r). apart own e) free.held)
   | inr foreign ↦ ap (position (holds s)) (foreign_places t p q (slice_set (places_of t p) k (Some r)) free.low foreign)
 ]
@@ -219,8 +220,8 @@ none_placed n few =
     let size = length-replicate {A = List (Option ℕ)} n (replicate 4 None) in
     record { few = omega arith; four = All-replicate (λ places. length places ≡ 4) n (replicate 4 None) refl }
 
-place_of-none : (n p r : ℕ) → place_of (replicate n (replicate 4 None)) p r ≡ None
-place_of-none n p r = elim (cases_eq p 0) [
+region_place-none : (n p r : ℕ) → region_place (replicate n (replicate 4 None)) p r ≡ None
+region_place-none n p r = elim (cases_eq p 0) [
   | inl none ↦ ap (position (holds r)) (no_places (replicate n (replicate 4 None)) p none)
   | inr some ↦
       ap (position (holds r)) (places_at (replicate n (replicate 4 None)) p (omega arith))
@@ -234,7 +235,7 @@ place_of-none n p r = elim (cases_eq p 0) [
 ]
 
 pub page_of_table-none : (n p r : ℕ) → page_of_table (replicate n (replicate 4 None)) p r ≡ 1
-page_of_table-none n p r = ap (frame_of_place p) (place_of-none n p r)
+page_of_table-none n p r = ap (frame_of_place p) (region_place-none n p r)
 
 -- A table that goes.
 
@@ -317,20 +318,20 @@ closed_own t p r = elim (cases_eq p 0) [
 ]
 
 -- a region that was closed has no place
-pub place_of-closed : (t : Places) (p r : ℕ) → place_of (closed t p r) p r ≡ None
-place_of-closed t p r =
+pub region_place-closed : (t : Places) (p r : ℕ) → region_place (closed t p r) p r ≡ None
+region_place-closed t p r =
     let gone = gone_from r (places_of t p) in
     ap (position (holds r)) (closed_own t p r) ∙ past_end (position_or_len (holds r) (map (freed r) (places_of t p))) (length (map (freed r) (places_of t p))) (omega arith)
 
 -- each other region keeps its own
-pub place_of-kept : (t : Places) (p q r s : ℕ) → (q ≡ p → s ≡ r → ⊥) → place_of (closed t p r) q s ≡ place_of t q s
-place_of-kept t p q r s apart = elim (cases_eq q p) [
+pub region_place-kept : (t : Places) (p q r s : ℕ) → (q ≡ p → s ≡ r → ⊥) → region_place (closed t p r) q s ≡ region_place t q s
+region_place-kept t p q r s apart = elim (cases_eq q p) [
   | inl own ↦ rw own (ap (position (holds s)) (closed_own t p r)
       ∙ ap₂ (λ (n m : ℕ). cond (nat_lt n m) (Some n) None) (left_alone r s (places_of t p) (λ (e : ◌≡◌ {A = ℕ} s r). apart own e)) (length-map (places_of t p) (freed r)))
   | inr foreign ↦ elim (cases_eq p 0) [
-    | inl none ↦ ap (λ (u : Places). place_of u q s) (closed_same t p r none)
+    | inl none ↦ ap (λ (u : Places). region_place u q s) (closed_same t p r none)
     | inr some ↦
         let low : 0 < p = omega arith in
-        ap (λ (u : Places). place_of u q s) (closed_row t p r low) ∙ ap (position (holds s)) (foreign_places t p q (map (freed r) (places_of t p)) low foreign)
+        ap (λ (u : Places). region_place u q s) (closed_row t p r low) ∙ ap (position (holds s)) (foreign_places t p q (map (freed r) (places_of t p)) low foreign)
   ]
 ]

@@ -1,6 +1,7 @@
 //! The places for tables that one process has.
 ghost use Rattle.std.specs.Prelude.{◌≡◌, length, map, position};
-ghost use Rattle.ds_tables.specs.Places.{holds, is_free, freed};
+ghost use Rattle.ds_tables.specs.Places.{holds};
+ghost use Rattle.ds_tables.specs.Inner.Places.{is_free, freed};
 
 /// The tables that a process may have at one time.
 pub(crate) const MOST: usize = 4;
@@ -9,7 +10,7 @@ pub(crate) const MOST: usize = 4;
 pub(crate) type Places = [Option<u32>; MOST];
 
 /// The place of a region's table.
-pub(crate) fn place_of(places: &[Option<u32>], region: u32) -> Option<usize>
+pub(crate) fn region_place(places: &[Option<u32>], region: u32) -> Option<usize>
     ensures { result ≡ position (holds region) places.now }
 {
     places.iter().position(|place| holds(*place, region))

@@ -1,8 +1,10 @@
 //! The page tables of all processes.
 ghost use Rattle.std.specs.Prelude.{◌≡◌, ◌↔◌, ℕ, ◌+◌, ◌*◌, ◌/◌, ◌%◌, ◌<◌, ◌≤◌, ◌⊎◌, ◌^◌, List, true, false, length, replicate, nat_lt, if◌then◌else◌, None, IsErr, OnErr, OnOk, IfSome, ◌-◌, slice_set};
 ghost use Rattle.ds_mem.specs.Memory.{frame_of, with_frame, zeros};
-ghost use Rattle.ds_tables.specs.Places.{ArePlaces, places_of, place_of, has_place, region_of, table_frame, page_of_table, with_place, opened, closed};
-ghost use Rattle.ds_tables.specs.Tables.{HasEmptyTable, word_place, entry_word, with_table, with_entry, word_once_put, word_once_closed};
+ghost use Rattle.ds_tables.specs.Places.{ArePlaces, places_of, region_place, region_of, table_frame, page_of_table};
+ghost use Rattle.ds_tables.specs.Inner.Places.{has_place, with_place, opened, closed};
+ghost use Rattle.ds_tables.specs.Tables.{HasEmptyTable, table_word_place, entry_word};
+ghost use Rattle.ds_tables.specs.Inner.Tables.{with_table, with_entry, word_once_put, word_once_closed};
 
 use crate::fault::Regions;
 use crate::places::{self, MOST, Places};
@@ -81,7 +83,7 @@ impl Tables {
         let region = region_of(addr);
         self.open(memory, process, region)?;
         let frame = self.frame(process, region);
-        memory.put_word(word_place(frame, addr), word);
+        memory.put_word(table_word_place(frame, addr), word);
         Ok(())
     }
 
@@ -91,7 +93,7 @@ impl Tables {
         ensures { result ≡ entry_word memory.now self.now process addr }
     {
         let frame = self.frame(process, region_of(addr));
-        memory.word(word_place(frame, addr))
+        memory.word(table_word_place(frame, addr))
     }
 
     /// Takes a region's table from a process, if it has one: all words of the region are 0 then.
@@ -132,12 +134,12 @@ impl Tables {
 
     /// The place of a region's table.
     fn place(&self, process: u32, region: u32) -> Option<usize>
-        ensures value { result ≡ place_of self.now process region }
+        ensures value { result ≡ region_place self.now process region }
         ensures place { IfSome result (λ k. k < 4) }
         ensures process { IfSome result (λ k. (0 < process) × (process ≤ 100)) }
         ensures places { ArePlaces self.now }
     {
-        places::place_of(self.places(process), region)
+        places::region_place(self.places(process), region)
     }
 
     /// The places of a process.
@@ -240,9 +242,9 @@ fn table_frame(process: u32, place: usize) -> u32
 }
 
 /// The place in memory of the word for an address, in a table in the frame.
-fn word_place(frame: u32, addr: u32) -> u32
+fn table_word_place(frame: u32, addr: u32) -> u32
     requires { frame < 402 }
-    ensures value { result ≡ word_place frame addr }
+    ensures value { result ≡ table_word_place frame addr }
     ensures aligned { result % 4 ≡ 0 }
     ensures range { result < 8388608 }
 {

@@ -12,7 +12,7 @@ use Rattle.std.proofs.Common.{w64}
 use Rattle.ds_tlb.specs.declared.entry.Entry.{Entry}
 use Rattle.std.proofs.lemmas.List.FromFn.{length-map-range_with_len, get_or-map-range_with_len}
 use Rattle.ds_tlb.specs.Entries.{empty_entry, empty_entries}
-use Rattle.ds_tlb.specs.Buckets.{bucket_of, bucket_bit, IsIndexOf}
+use Rattle.ds_tlb.specs.Inner.Buckets.{bucket_of, bucket_bit, IsIndexOf}
 
 -- what a read past the last slot gives
 abbrev pub no_entry : Entry

@@ -7,14 +7,14 @@ use Rattle.std.proofs.lemmas.Option.{get_or_from_slice_get}
 use Rattle.std.proofs.lemmas.List.Folds.{position_or_len-set}
 use Rattle.ds_tlb.specs.declared.entry.Entry.{Entry}
 use Rattle.ds_tlb.specs.Entries.{matches, find}
-use Rattle.ds_tlb.specs.Frames.{base_in, entry_in, base_of}
+use Rattle.ds_tlb.specs.Inner.Frames.{base_in, entry_in, base_of}
 use Rattle.ds_word.specs.Word.{word, minus}
 use Rattle.ds_isa.specs.declared.instr.Size.{Size}
 use Rattle.ds_isa.specs.declared.instr.Size.TheVariants.{Byte, Half, Word, Part}
 use Rattle.ds_isa.specs.declared.instr.Kind.{Kind}
 use Rattle.ds_isa.specs.Access.{is_store, is_aligned}
 use Rattle.std.specs.Prelude.{IfSome}
-use Rattle.ds_tlb.specs.Windows.{place_of, tag_of, rest_of, Remembers, IsFound, AreRight, Forgets, ForgetsBoth}
+use Rattle.ds_tlb.specs.Inner.Windows.{window_place, tag_of, rest_of, Remembers, IsFound, AreRight, Forgets, ForgetsBoth}
 use Rattle.ds_tlb.proofs.Bits.{no_entry, read_set_other}
 use Rattle.ds_tlb.proofs.Matches.{found_matches, entry_of_match}
 
@@ -56,7 +56,7 @@ right_after entries store slot was entry old_tags old_distances tags distances i
 }
 
 -- no page has the tag of a window that remembers nothing
-no_tag : (tags distances : List ℕ) (vpn asid base : ℕ) → vpn < 2 ^ 20 → asid < 2 ^ 8 → get_or tags (place_of vpn asid) 0 ≡ 0x400 → Remembers tags distances vpn asid base → ⊥
+no_tag : (tags distances : List ℕ) (vpn asid base : ℕ) → vpn < 2 ^ 20 → asid < 2 ^ 8 → get_or tags (window_place vpn asid) 0 ≡ 0x400 → Remembers tags distances vpn asid base → ⊥
 no_tag tags distances vpn asid base low small blank remembers =
     let same : 0x400 ≡ tag_of vpn asid = sym blank ∙ remembers.tag in
     omega (arith, same, low, small)
@@ -64,7 +64,7 @@ no_tag tags distances vpn asid base low small blank remembers =
 -- windows without tags remember nothing
 blank_is_none : (tags distances : List ℕ) (vpn asid base : ℕ) → vpn < 2 ^ 20 → asid < 2 ^ 8 → tags ≡ replicate 64 0x400 → Remembers tags distances vpn asid base → ⊥
 blank_is_none tags distances vpn asid base low small is remembers =
-    no_tag tags distances vpn asid base low small (rw is (get_or-replicate 64 (place_of vpn asid) 0x400 0 (omega arith))) remembers
+    no_tag tags distances vpn asid base low small (rw is (get_or-replicate 64 (window_place vpn asid) 0x400 0 (omega arith))) remembers
 
 -- so they are right
 pub blank_is_right : (tags distances : List ℕ) (store : Bool) (entries : List Entry) → tags ≡ replicate 64 0x400 → AreRight tags distances store entries
@@ -100,16 +100,16 @@ upper_forgets entry tags distances upper = record {
 }
 
 -- an entry of one address space is forgotten with its window
-pub one_forgets : (entry : Entry) (tags distances : List ℕ) (place : ℕ) → length tags ≡ 64 → entry.g ≡ false → place ≡ place_of entry.vpn entry.asid → Forgets entry tags distances (set tags place 0x400) distances
+pub one_forgets : (entry : Entry) (tags distances : List ℕ) (place : ℕ) → length tags ≡ 64 → entry.g ≡ false → place ≡ window_place entry.vpn entry.asid → Forgets entry tags distances (set tags place 0x400) distances
 one_forgets entry tags distances place long own at =
     let inside : place < length tags = omega (arith, at, long) in
-    let here : (vpn asid base : ℕ) → vpn < 2 ^ 20 → asid < 2 ^ 8 → place_of vpn asid ≡ place → Remembers (set tags place 0x400) distances vpn asid base → ⊥ =
+    let here : (vpn asid base : ℕ) → vpn < 2 ^ 20 → asid < 2 ^ 8 → window_place vpn asid ≡ place → Remembers (set tags place 0x400) distances vpn asid base → ⊥ =
     λ vpn asid base low small same remembers. no_tag (set tags place 0x400) distances vpn asid base low small (rw same (get_or-set_same tags place 0x400 0 inside)) remembers in
     record {
-      before = λ vpn asid base low small remembers. elim (cases_eq (place_of vpn asid) place) [
+      before = λ vpn asid base low small remembers. elim (cases_eq (window_place vpn asid) place) [
         | inl same ↦ absurd (here vpn asid base low small same remembers)
         | inr other ↦ record {
-          tag = sym (get_or-set_other tags place (place_of vpn asid) 0x400 0 other) ∙ remembers.tag;
+          tag = sym (get_or-set_other tags place (window_place vpn asid) 0x400 0 other) ∙ remembers.tag;
           frame = remembers.frame;
         }
       ];
@@ -137,13 +137,13 @@ both_forgotten was now tags distances tags1 distances1 tags2 distances2 first se
 
 -- a page that is remembered with the frame that the entries have for it
 pub right_with : (entries : List Entry) (store : Bool) (tags distances : List ℕ) (place tag distance vpn asid base : ℕ) → length tags ≡ 64 → length distances ≡ 64 →
-    place ≡ place_of vpn asid → tag ≡ tag_of vpn asid → distance ≡ minus base (vpn * 2 ^ 12) → vpn < 2 ^ 19 → asid < 2 ^ 8 → base + 4096 ≤ 2 ^ 23 →
+    place ≡ window_place vpn asid → tag ≡ tag_of vpn asid → distance ≡ minus base (vpn * 2 ^ 12) → vpn < 2 ^ 19 → asid < 2 ^ 8 → base + 4096 ≤ 2 ^ 23 →
     base_of entries store vpn asid ≡ Some base → AreRight tags distances store entries → AreRight (set tags place tag) (set distances place distance) store entries
 right_with entries store tags distances place tag distance vpn asid base long_tags long_distances at known far lower small inside found right = record {
-  each = λ v a b low fits remembers. elim (cases_eq (place_of v a) place) [
+  each = λ v a b low fits remembers. elim (cases_eq (window_place v a) place) [
     | inl same ↦
-        let tags_here : get_or (set tags place tag) (place_of v a) 0 ≡ tag = rw same (get_or-set_same tags place tag 0 (omega arith)) in
-        let distances_here : get_or (set distances place distance) (place_of v a) 0 ≡ distance = rw same (get_or-set_same distances place distance 0 (omega arith)) in
+        let tags_here : get_or (set tags place tag) (window_place v a) 0 ≡ tag = rw same (get_or-set_same tags place tag 0 (omega arith)) in
+        let distances_here : get_or (set distances place distance) (window_place v a) 0 ≡ distance = rw same (get_or-set_same distances place distance 0 (omega arith)) in
         let tags_equal : tag_of vpn asid ≡ tag_of v a = sym known ∙ (sym tags_here ∙ remembers.tag) in
         let page : v ≡ vpn = omega (arith, tags_equal, small, fits) in
         let space : a ≡ asid = omega (arith, tags_equal, small, fits) in
@@ -151,8 +151,8 @@ right_with entries store tags distances place tag distance vpn asid base long_ta
         let is : base ≡ b = omega (arith, frame, far, page, lower, inside) in
         (omega (arith, page, lower), rw (page, space, sym is) found, omega (arith, is, inside))
     | inr other ↦ right.each v a b low fits (record {
-      tag = sym (get_or-set_other tags place (place_of v a) tag 0 other) ∙ remembers.tag;
-      frame = ap (λ (d : ℕ). word (v * 2 ^ 12 + d)) (sym (get_or-set_other distances place (place_of v a) distance 0 other)) ∙ remembers.frame;
+      tag = sym (get_or-set_other tags place (window_place v a) tag 0 other) ∙ remembers.tag;
+      frame = ap (λ (d : ℕ). word (v * 2 ^ 12 + d)) (sym (get_or-set_other distances place (window_place v a) distance 0 other)) ∙ remembers.frame;
     })
   ];
 }
@@ -178,7 +178,7 @@ is_found tags distances size address asid key window place fits small is at same
     let few : rest_of size address < 4 = rest_is_small size address in
     let none : rest_of size address ≡ 0 = omega (arith, is, same, whole, few, fits, small) in
     let tag : key ≡ tag_of (address / 2 ^ 12) asid = omega (arith, is, none) in
-    let here : window ≡ place_of (address / 2 ^ 12) asid = omega (arith, at, tag, fits, small) in
+    let here : window ≡ window_place (address / 2 ^ 12) asid = omega (arith, at, tag, fits, small) in
     record {
       aligned = suits size address none;
       tag = ap (λ (n : ℕ). get_or tags n 0) (sym here) ∙ (same ∙ tag);
@@ -200,7 +200,7 @@ found_frame : (entries : List Entry) (store : Bool) (tags distances : List ℕ) 
     (address < 2 ^ 31) × (base_of entries store (address / 2 ^ 12) asid ≡ Some (place - address % 2 ^ 12)) × (place % 2 ^ 12 ≡ address % 2 ^ 12) × (place < 2 ^ 23)
 found_frame entries store tags distances size address asid place fits small right found =
     let vpn : ℕ = address / 2 ^ 12 in
-    let distance : ℕ = get_or distances (place_of vpn asid) 0 in
+    let distance : ℕ = get_or distances (window_place vpn asid) 0 in
     let base : ℕ = word (vpn * 2 ^ 12 + distance) in
     let is = right.each vpn asid base (omega (arith, fits)) small (record { tag = found.tag; frame = refl }) in
     let whole : base % 4096 ≡ 0 = whole_in store (entry_in entries (find entries vpn asid)) base is.1 in

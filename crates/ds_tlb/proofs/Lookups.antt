@@ -11,7 +11,7 @@ use Rattle.std.proofs.lemmas.Nat.Bits.{bit_at-trailing_zeros, bit_at-zero}
 use Rattle.std.proofs.lemmas.Nat.{and_le_l}
 use Rattle.ds_tlb.specs.declared.entry.Entry.{Entry}
 use Rattle.ds_tlb.specs.Entries.{matches, find}
-use Rattle.ds_tlb.specs.Buckets.{bucket_of, bucket_bit, IsBucketOf}
+use Rattle.ds_tlb.specs.Inner.Buckets.{bucket_of, bucket_bit, IsBucketOf}
 use Rattle.ds_tlb.proofs.Bits.{no_entry, without_slot, without_bit}
 
 -- only entries of the bucket are left to try, and every other entry fails

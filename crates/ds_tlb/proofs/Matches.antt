@@ -9,7 +9,8 @@ use Rattle.std.proofs.lemmas.List.Sums.{fails_before_first}
 use Rattle.std.proofs.lemmas.Bool.Decides.{nat_tests}
 use Rattle.ds_tlb.specs.declared.entry.Entry.{Entry}
 use Rattle.ds_tlb.specs.Entries.{matches, find, empty_entry, empty_entries}
-use Rattle.ds_tlb.specs.Singles.{match_each_other, IsSingle, IsOnlyMatch, MatchesAt}
+use Rattle.ds_tlb.specs.Singles.{match_each_other, IsSingle}
+use Rattle.ds_tlb.specs.Inner.Singles.{IsOnlyMatch, MatchesAt}
 
 -- entries that answer for one page of one address space match one another
 pub both_match : (vpn asid : ℕ) (e f : Entry) → matches vpn asid e ≡ true → matches vpn asid f ≡ true → match_each_other e f ≡ true

@@ -1,5 +1,5 @@
 -- The translation lookaside buffer as the list of its entries, one for each slot.
-use Rattle.std.specs.Prelude.{ℕ, zero, suc, ◌+◌, ◌-◌, ◌*◌, ◌^◌, ◌==◌, ◌&&◌, ◌||◌, Bool, false, if◌then◌else◌, List, map, Option, Some, None, position}
+use Rattle.std.specs.Prelude.{ℕ, ◌+◌, ◌-◌, ◌*◌, ◌^◌, ◌==◌, ◌&&◌, ◌||◌, Bool, false, if◌then◌else◌, List, map, Option, Some, None, position}
 use Rattle.std.specs.List.{range_with_len}
 use Rattle.ds_tlb.specs.declared.entry.Entry.{Entry}
 
@@ -20,13 +20,8 @@ abbrev pub empty_entries : ℕ → List Entry
 empty_entries n = map empty_entry (range_with_len 0 n)
 
 -- Random after one more instruction
-abbrev pub ticked : ℕ → ℕ → ℕ → ℕ
-ticked slots wired random = if random == wired then slots - 1 else random - 1
-
--- Random after so many more instructions
-abbrev pub passed : ℕ → ℕ → ℕ → ℕ → ℕ
-passed slots wired zero random = random
-passed slots wired (suc n) random = ticked slots wired (passed slots wired n random)
+abbrev pub random_after : ℕ → ℕ → ℕ → ℕ
+random_after slots wired random = if random == wired then slots - 1 else random - 1
 
 -- the word that a probe leaves in Index
 abbrev pub index_word : Option ℕ → ℕ

@@ -1,7 +1,6 @@
 -- Buffers in which no page of an address space has two entries.
-use Rattle.std.specs.Prelude.{◌≡◌, ℕ, ◌==◌, ◌&&◌, ◌||◌, Bool, IsTrue, IsSomeAnd, List, slice_get, Some}
+use Rattle.std.specs.Prelude.{◌≡◌, ℕ, ◌==◌, ◌&&◌, ◌||◌, Bool, IsTrue, List, slice_get, Some}
 use Rattle.ds_tlb.specs.declared.entry.Entry.{Entry}
-use Rattle.ds_tlb.specs.Entries.{matches}
 
 -- whether some page of some address space has both entries
 abbrev pub match_each_other : Entry → Entry → Bool
@@ -10,11 +9,3 @@ match_each_other e f = (e.vpn == f.vpn) && ((e.g || f.g) || (e.asid == f.asid))
 -- no two different slots match one another
 pub record IsSingle (entries : List Entry) : Type 0 where
   pub same_slot : (i j : ℕ) (e f : Entry) → slice_get entries i ≡ Some e → slice_get entries j ≡ Some f → IsTrue (match_each_other e f) → i ≡ j
-
--- the slot's entry matches
-abbrev pub MatchesAt : ℕ → ℕ → List Entry → ℕ → Type 0
-MatchesAt vpn asid entries slot = IsSomeAnd (slice_get entries slot) (λ e. IsTrue (matches vpn asid e))
-
--- no entry of another slot matches
-pub record IsOnlyMatch (vpn asid : ℕ) (entries : List Entry) (slot : ℕ) : Type 0 where
-  pub same_slot : (other : ℕ) → MatchesAt vpn asid entries other → other ≡ slot

@@ -2,7 +2,7 @@
 ghost use Rattle.std.specs.Prelude.{◌≡◌, ◌<◌, ◌≤◌, ◌%◌, IfSome, Some};
 ghost use Rattle.ds_isa.specs.Access.{is_store};
 ghost use Rattle.ds_tlb.specs.Entries.{matches, empty_entry, empty_entries};
-ghost use Rattle.ds_tlb.specs.Frames.{base_in};
+ghost use Rattle.ds_tlb.specs.Inner.Frames.{base_in};
 ghost use Rattle.ds_tlb.specs.Words.{hi_word, lo_word, entry_of};
 
 use ds_isa::Kind;

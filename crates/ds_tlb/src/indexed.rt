@@ -2,10 +2,10 @@
 ghost use Rattle.std.specs.Prelude.{◌≡◌, ◌+◌, ◌-◌, ◌<◌, ◌≤◌, ◌%◌, length, IfSome, true, false};
 ghost use Rattle.std.proofs.Math.Nat.{le-add_right};
 ghost use Rattle.ds_isa.specs.Access.{is_store};
-ghost use Rattle.ds_tlb.specs.Frames.{base_of, entry_in};
+ghost use Rattle.ds_tlb.specs.Inner.Frames.{base_of, entry_in};
 ghost use Rattle.ds_tlb.specs.Entries.{find, empty_entries};
-ghost use Rattle.ds_tlb.specs.Buckets.{bucket_of, IsBucketOf, IsIndexOf};
-ghost use Rattle.ds_tlb.specs.Windows.{AreRight};
+ghost use Rattle.ds_tlb.specs.Inner.Buckets.{bucket_of, IsBucketOf, IsIndexOf};
+ghost use Rattle.ds_tlb.specs.Inner.Windows.{AreRight};
 
 use crate::entry::{Entry, empty_entries};
 use crate::lookaside::{BadRandom, Lookaside, index_word_of};
@@ -219,7 +219,7 @@ fn gone_round(above: usize, ticks: u32, places: usize) -> usize
 
 /// The bucket that a virtual page falls into.
 #[inline(always)]
-#[tactic(auto, unfolding(crate::specs::Buckets::bucket_of))]
+#[tactic(auto, unfolding(crate::specs::Inner::Buckets::bucket_of))]
 fn bucket_of(vpn: u32) -> usize
     ensures value { result ≡ bucket_of vpn }
     ensures range { result < 128 }

@@ -1,9 +1,11 @@
 //! What every translation lookaside buffer does, whichever way it is searched.
 ghost use Rattle.std.specs.Prelude.{◌≡◌, ℕ, ◌-◌, ◌/◌, ◌%◌, ◌^◌, ◌<◌, ◌≤◌, ◌↔◌, true, All, List, length, slice_get, slice_set, IsTrue, IsOk, IfOk, IsNone, IfSome, not};
 ghost use Rattle.ds_isa.specs.Access.{is_store, is_aligned};
-ghost use Rattle.ds_tlb.specs.Entries.{matches, find, empty_entries, ticked, passed, index_word};
-ghost use Rattle.ds_tlb.specs.Frames.{base_of};
-ghost use Rattle.ds_tlb.specs.Singles.{IsSingle, IsOnlyMatch, MatchesAt};
+ghost use Rattle.ds_tlb.specs.Entries.{matches, find, empty_entries, random_after, index_word};
+ghost use Rattle.ds_tlb.specs.Inner.Entries.{passed};
+ghost use Rattle.ds_tlb.specs.Inner.Frames.{base_of};
+ghost use Rattle.ds_tlb.specs.Singles.{IsSingle};
+ghost use Rattle.ds_tlb.specs.Inner.Singles.{IsOnlyMatch, MatchesAt};
 
 use crate::entry::Entry;
 use ds_isa::{Kind, Size};
@@ -92,7 +94,7 @@ pub trait Lookaside: Drop {
     /// Counts Random down by one; from the first slot that isn't wired it goes to the last slot.
     fn tick(&mut self)
         ensures same { entries self.new ≡ entries self.old }
-        ensures random { random_place self.new ≡ ticked SLOTS WIRED (random_place self.old) };
+        ensures random { random_place self.new ≡ random_after SLOTS WIRED (random_place self.old) };
 
     /// Counts Random down so many times.
     fn pass(&mut self, count: u32)

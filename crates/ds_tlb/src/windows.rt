@@ -2,8 +2,8 @@
 ghost use Rattle.std.specs.Prelude.{◌≡◌, ◌+◌, ◌/◌, ◌%◌, ◌<◌, ◌^◌, Bool, List, All, IfSome, Some};
 ghost use Rattle.ds_word.specs.Word.{word};
 ghost use Rattle.ds_tlb.specs.declared.entry.Entry.{Entry};
-ghost use Rattle.ds_tlb.specs.Frames.{base_of};
-ghost use Rattle.ds_tlb.specs.Windows.{place_of, tag_of, rest_of, IsFound, Forgets, ForgetsBoth, AreRight};
+ghost use Rattle.ds_tlb.specs.Inner.Frames.{base_of};
+ghost use Rattle.ds_tlb.specs.Inner.Windows.{window_place, tag_of, rest_of, IsFound, Forgets, ForgetsBoth, AreRight};
 
 use crate::entry::Entry;
 use ds_isa::Size;
@@ -72,7 +72,7 @@ impl Windows {
             → AreRight self.new.tags self.new.distances store entries }
     {
         if vpn < UPPER_HALF && base <= MEMORY_END - PAGE_SIZE as u32 {
-            let place = place_of(vpn, asid);
+            let place = window_place(vpn, asid);
             self.tags[place] = tag_of(vpn, asid);
             self.distances[place] = wrapping_difference(base, vpn * PAGE_SIZE as u32);
         }
@@ -100,7 +100,7 @@ impl Windows {
         if entry.g {
             self.forget_all();
         } else {
-            self.tags[place_of(entry.vpn, entry.asid)] = NO_TAG;
+            self.tags[window_place(entry.vpn, entry.asid)] = NO_TAG;
         }
     }
 
@@ -117,8 +117,8 @@ impl Windows {
 
 /// The place of the window of a page of an address space.
 #[inline(always)]
-fn place_of(vpn: u32, asid: u8) -> usize
-    ensures value { result ≡ place_of vpn asid }
+fn window_place(vpn: u32, asid: u8) -> usize
+    ensures value { result ≡ window_place vpn asid }
     ensures inside { result < 64 }
 {
     (vpn as usize + asid as usize) % PLACES

@@ -5,41 +5,45 @@ use Rattle.std.specs.Prelude.{◌||◌, ◌&&◌, not, nat_lt, is_some, IfErr}
 use Rattle.std.proofs.lemmas.Bool.Decides.{nat_tests}
 use Rattle.std.specs.String.{string_bytes}
 use Rattle.ds_log.specs.Sent.{AppendsPart}
-use Rattle.ds_log.proofs.Sends.{appends_both, appends_none, part_before, part_behind}
+use Rattle.ds_log.proofs.Sends.{appends_both, appends_none, part_before, part_after}
 use Rattle.std.specs.Io.KnownBytes.{Appends, Keeps}
 use Rattle.ds_pagemap.specs.declared.turn.Turn.{Turn}
 use Rattle.ds_pagemap.specs.Machine.{State, touched}
 use Rattle.ds_pagemap.specs.Run.{after, goes_on, is_over}
-use Rattle.ds_pagemap.specs.Text.{text_of}
+use Rattle.ds_pagemap.specs.Text.{state_text}
 use Rattle.ds_refinement.specs.declared.step.Step.{Step}
 use Rattle.ds_refinement.specs.declared.step.Step.TheVariants.{Inside, Unit, Boundary, Over}
 use Rattle.ds_refinement.specs.Held.{Held}
-use Rattle.ds_refinement.specs.Counts.{IsFew, Counts}
-use Rattle.ds_refinement.specs.Stands.{Stands, IsSound, CountedBy}
+use Rattle.ds_refinement.specs.Counts.{Counts}
+use Rattle.ds_refinement.specs.Inner.Counts.{IsFew}
+use Rattle.ds_refinement.specs.Stands.{Stands, CountedBy}
+use Rattle.ds_refinement.specs.Inner.Stands.{IsSound}
 use Rattle.ds_refinement.specs.Real.{RealPath}
 use Rattle.ds_refinement.specs.Steps.{Moves}
-use Rattle.ds_refinement.specs.Services.{with_failure}
-use Rattle.ds_refinement.specs.Runs.{RunsTo, RunsWithin, held_goes_on}
+use Rattle.ds_refinement.specs.Inner.Services.{with_failure}
+use Rattle.ds_refinement.specs.Runs.{RunsTo, held_goes_on}
+use Rattle.ds_refinement.specs.Inner.Runs.{RunsWithin}
 use Rattle.ds_refinement.proofs.RunSteps.{goes_alike, begins_goes}
-use Rattle.ds_kernel.specs.Ended.{Does}
-use Rattle.ds_kernel.specs.Going.{GoesOn}
+use Rattle.ds_kernel.specs.Inner.Ended.{DoesStep}
+use Rattle.ds_kernel.specs.Inner.Going.{GoesOn}
 use Rattle.ds_kernel.proofs.Running.{step_goes}
 use Rattle.ds_station.specs.Headline.{held_text}
-use Rattle.ds_station.specs.Faults.{IsNewFault, RefusesStep}
-use Rattle.ds_station.specs.Runs.{IsCut}
+use Rattle.ds_station.specs.Faults.{RefusesStep}
+use Rattle.ds_station.specs.Inner.Faults.{IsNewFault}
+use Rattle.ds_station.specs.Inner.Runs.{IsCut}
 use Rattle.ds_station.specs.declared.fault.Fault.{Fault}
 use Rattle.ds_station.specs.declared.fault.Fault.TheVariants as fault
 use Rattle.ds_words.specs.declared.view.View.{View}
 use Rattle.ds_trace.specs.declared.processor.ProcessorCounts.{ProcessorCounts}
 use Rattle.ds_trace.specs.declared.window.WindowEnd.{WindowEnd}
-use Rattle.ds_trace.specs.Processors.{IsEarly, is_within, left_along, left_by, none_processed, told_from, window_end, window_text}
-use Rattle.ds_trace.specs.Counted.{CountsStep, HasCounted, IsCounting, IsWatched, WatchesAfter, WatchesAt}
+use Rattle.ds_trace.specs.Processors.{IsEarly, is_in_window, left_along, left_by, none_processed, told_from, window_end, window_text}
+use Rattle.ds_trace.specs.Inner.Counted.{CountsStep, HasCounted, IsCounting, IsWatched, WatchesAfter, WatchesAt}
 use Rattle.ds_trace.specs.declared.progress.Progress.{Progress}
 use Rattle.ds_trace.specs.Counts.{Counted, none_counted}
 use Rattle.ds_trace.specs.Traces.{told_to, trace_along}
-use Rattle.ds_trace.specs.Shows.{looked_held, end_held, processor_held, IsTold, TellsSo, TellsAll, IsStopped, Traces, TracesLines, TracesPart, TracesShort}
-use Rattle.ds_trace.specs.Advanced.{Adds, HasStepped, HasHalted, is_last}
-use Rattle.ds_trace.specs.Handed.{IsFinished, IsHandedOn, IsLate}
+use Rattle.ds_trace.specs.Inner.Shows.{looked_held, end_held, processor_held, IsTold, TellsSo, TellsAll, IsStopped, Traces, TracesLines, TracesPart, TracesShort}
+use Rattle.ds_trace.specs.Inner.Advanced.{Adds, HasStepped, HasHalted, is_last}
+use Rattle.ds_trace.specs.Inner.Handed.{IsFinished, IsHandedOn, IsLate}
 use Rattle.ds_trace.proofs.Processing.{counted_step, counting_last, counting_more, failed_within, never_out, nothing_counted, nothing_more, processor_told, watched_more, watched_step, within_before}
 use Rattle.ds_trace.proofs.Silence.{untold_until, until_within, until_silent}
 use Rattle.ds_trace.proofs.Telling.{told_first, told_inside, told_same, told_unit, told_boundary, told_handed, told_part, lines_part, finished, finished_part, finished_so_far, going_now}
@@ -72,7 +76,7 @@ none_begun o t n (suc k) false is test begun = let early : t < n = begun (omega 
 -- A step that is told.
 
 module _ (v : View) (n : ℕ) (m : State) (h new : Held) (a d : Option (List ℕ)) (text more : List ℕ) (b c : Progress) where
-  told_step : (step : Step) → is_last step ≡ false → Does step h new → Adds step v new text b more c → held_goes_on n h ≡ true → IsTold v n m h a d text b → IsTold v n m new a d more c
+  told_step : (step : Step) → is_last step ≡ false → DoesStep step h new → Adds step v new text b more c → held_goes_on n h ≡ true → IsTold v n m h a d text b → IsTold v n m new a d more c
   told_step Inside last does adds going told =
       subst (λ (l : List ℕ). IsTold v n m new a d l c) (sym adds.0) (subst (λ (x : Progress). IsTold v n m new a d text x) (sym adds.1) (told_inside v n m h new a d text b does.follows told))
   told_step Unit last does adds going told = told_unit v n m h new a d text more b c told going does.follows does.moves adds.0 adds.1
@@ -109,7 +113,7 @@ module _ (v : View) (n : ℕ) (h new : Held) (text more : List ℕ) (b c : Progr
   step_told from a d tells = record { tells = λ m k. told_step v n m h new a d text more b c s.step s.is s.does s.adds step_going (tells.tells m k) }
 
   -- a step that leaves a window comes between two turns
-  step_unbegun : (window : Option ℕ) → is_within window h ≡ true → is_within window new ≡ false → new.own.spent ≡ 0
+  step_unbegun : (window : Option ℕ) → is_in_window window h ≡ true → is_in_window window new ≡ false → new.own.spent ≡ 0
   step_unbegun None inside out = absurd (never_out (is_some new.kept.state.owed) out)
   step_unbegun (Some end) inside out =
       let going : held_goes_on end h ≡ true = going_now s.step end h new sound.state sound.stands s.is s.does.follows (early_by h.kept.state.owed h.kept.state.time end (is_some h.kept.state.owed) refl inside) in
@@ -157,7 +161,7 @@ pub record IsLast (h new : Held) (text : List ℕ) (b : Progress) (more : List �
   pub owed : m.owed ≡ None
   pub over : is_over m ≡ true
 
-last_is : (v : View) (step : Step) (h new : Held) (text more : List ℕ) (b c : Progress) (m : State) → Stands h m → is_last step ≡ true → Does step h new → Adds step v new text b more c → IsLast h new text b more c m
+last_is : (v : View) (step : Step) (h new : Held) (text more : List ℕ) (b c : Progress) (m : State) → Stands h m → is_last step ≡ true → DoesStep step h new → Adds step v new text b more c → IsLast h new text b more c m
 last_is v Inside h new text more b c m k last does adds = absurd (cc)
 last_is v Unit h new text more b c m k last does adds = absurd (cc)
 last_is v Boundary h new text more b c m k last does adds = absurd (cc)
@@ -179,8 +183,8 @@ module _ (v : View) (n : ℕ) (h new : Held) (text more : List ℕ) (b c : Progr
   last_owed owed = ap (λ (x : Progress). x.before.owed) last.looked ∙ (owed ∙ sym (ap (λ (x : Held). is_some x.kept.state.owed) last.same))
 
   -- it leaves no window
-  last_within : (window : Option ℕ) → is_within window h ≡ true → is_within window new ≡ false → ⊥
-  last_within window inside out = let no : true ≡ false = sym inside ∙ (sym (ap (is_within window) last.same) ∙ out) in cc
+  last_within : (window : Option ℕ) → is_in_window window h ≡ true → is_in_window window new ≡ false → ⊥
+  last_within window inside out = let no : true ≡ false = sym inside ∙ (sym (ap (is_in_window window) last.same) ∙ out) in cc
 
   last_watched : (window : Option ℕ) (from : Held) (before : Option Held) (e f : WindowEnd) → b.before.owed ≡ is_some h.kept.state.owed → WatchesAt c.before.owed new e f
       → IsWatched window n from (left_by window before h) e → IsWatched window n from (left_by window (left_by window before h) new) f
@@ -387,7 +391,7 @@ nothing_part v n from a none =
         reached = record { choices = []; early = false; comes_to = refl };
         processor = processor_held v lines none_processed from;
         processed = processor_told v n from from none_processed lines m m (nothing_counted (window_end v) (told_from v n) n from none) k k;
-        written = part_none a (told_to v n m m (record { choices = []; early = false; comes_to = refl }) (processor_held v lines none_processed from) ++ text_of m);
+        written = part_none a (told_to v n m m (record { choices = []; early = false; comes_to = refl }) (processor_held v lines none_processed from) ++ state_text m);
       };
     }
 
@@ -433,4 +437,4 @@ cut_trace a d text end more rest is part = part_before a d (text ++ end) rest (s
 
 -- or the trace, and a prefix of the text
 pub cut_text : (a d e : Option (List ℕ)) (text end more rest : List ℕ) → more ≡ text ++ end → Appends a d more → AppendsPart d e rest → AppendsPart a e (text ++ end ++ rest)
-cut_text a d e text end more rest is all part = part_behind a d e (text ++ end) rest (subst (Appends a d) is all) part
+cut_text a d e text end more rest is all part = part_after a d e (text ++ end) rest (subst (Appends a d) is all) part

@@ -20,8 +20,8 @@ use Rattle.ds_trace.specs.Boundaries.{due_by}
 use Rattle.ds_trace.specs.Changes.{same_first, same_standing, standing_line, standings_text, way_text, switch_text, changes_text}
 use Rattle.ds_trace.specs.Entries.{tables_text}
 use Rattle.ds_trace.specs.declared.counts.Lossy.{Lossy}
-use Rattle.ds_trace.specs.Counts.{Counted, plus, loss_of, lost_of, is_counted, is_unbegun, rest_counted, switch_counted, counts_after}
-use Rattle.ds_trace.specs.Halves.{log_of, told_table, looked_of, found_of, process_in, done_text, opening_text, half_after, half_text, half_counts}
+use Rattle.ds_trace.specs.Counts.{Counted, plus, loss_of, lost_of, is_counted, is_unbegun, rest_counted, switch_counted, counted_after}
+use Rattle.ds_trace.specs.Halves.{log_of, told_table, looked_of, found_of, process_of_start, done_text, opening_text, half_after, half_text, half_counts}
 
 untouched : (x : State) (d : Bool) → x.ready ≡ [] → touched d x ≡ x
 untouched x true none = ap (touch_first x) none
@@ -102,7 +102,7 @@ idle_text v k x owed none =
     let b : Looked = record (looked_of v (idle_after x)) { owed = false } in
     let f : Found = found_of 0 (idle_after x) in
     let runs : first x.ready ≡ None = ap first none in
-    ap (λ (l : Looked). half_after v k l (found_of (process_in l.start) (idle_after x))) (idle_looked v x owed none)
+    ap (λ (l : Looked). half_after v k l (found_of (process_of_start l.start) (idle_after x))) (idle_looked v x owed none)
     ∙ (ap (λ (l : List ℕ). cond (shows_turn v x.time) (opening_text v k b ++ [] ++ l) []) (changes_none v b f runs runs
     (standings_same v (x.time + 1) b.standings 1 0 b.standings refl (λ j i is. ap (slice_get b.standings) (omega (arith, is)))))
     ∙ ap (λ (l : List ℕ). cond (shows_turn v x.time) l []) (append-nil (opening_text v k b ++ []) ∙ append-nil (opening_text v k b)))
@@ -131,7 +131,7 @@ idle_begun : (v : View) (k : Counted) (x : State) → x.owed ≡ None → x.read
 idle_begun v k x owed none told =
     let b : Looked = record (looked_of v (idle_after x)) { owed = false } in
     let f : Found = found_of 0 (idle_after x) in
-    ap (λ (l : Looked). shows_entries v && is_unbegun (counts_after v k l (found_of (process_in l.start) (idle_after x)))) (idle_looked v x owed none)
+    ap (λ (l : Looked). shows_entries v && is_unbegun (counted_after v k l (found_of (process_of_start l.start) (idle_after x)))) (idle_looked v x owed none)
     ∙ begun_by (has_lines v) (shows_turn v x.time) v.entries k (switch_counted (rest_counted k b f) b.runner f.runner) told (begun_more k.units k.idle)
 
 -- and its boundary tells what is after both
@@ -140,11 +140,11 @@ two_parts true opening second done rest none = append_assoc opening done rest �
 two_parts false opening second done rest none = refl
 
 pub idle_boundary : (v : View) (k : Counted) (x t : State) → x.owed ≡ None → x.ready ≡ []
-    → half_after v k (looked_of v x) (found_of (process_in (looked_of v x).start) t) ≡ idle_opening v k x ++ half_text v (half_counts v k x (idle_after x)) (idle_after x) t
+    → half_after v k (looked_of v x) (found_of (process_of_start (looked_of v x).start) t) ≡ idle_opening v k x ++ half_text v (half_counts v k x (idle_after x)) (idle_after x) t
 idle_boundary v k x t owed none =
     let b : Looked = looked_of v (idle_after x) in
     let f : Found = found_of 0 t in
-    ap (λ (l : Looked). half_after v k l (found_of (process_in l.start) t)) (idle_looked v x owed none)
+    ap (λ (l : Looked). half_after v k l (found_of (process_of_start l.start) t)) (idle_looked v x owed none)
     ∙ two_parts (shows_turn v x.time) (opening_text v k b) (opening_text v (half_counts v k x (idle_after x)) b) (done_text v b f None) (changes_text v b f)
     (λ told. ap (λ (c : Bool). cond c (tables_text v b.began [] b.table) []) (idle_begun v k x owed none told))
 
@@ -166,7 +166,7 @@ counts_twice true k after is lost none lossy any = refl
 counts_twice false k after is lost none lossy any = refl
 
 -- with its boundary
-pub idle_counts : (v : View) (k : Counted) (x t : State) → x.owed ≡ None → x.ready ≡ [] → counts_after v k (looked_of v x) (found_of (process_in (looked_of v x).start) t) ≡ half_counts v (half_counts v k x (idle_after x)) (idle_after x) t
+pub idle_counts : (v : View) (k : Counted) (x t : State) → x.owed ≡ None → x.ready ≡ [] → counted_after v k (looked_of v x) (found_of (process_of_start (looked_of v x).start) t) ≡ half_counts v (half_counts v k x (idle_after x)) (idle_after x) t
 idle_counts v k x t owed none =
     let b : Looked = record (looked_of v (idle_after x)) { owed = false } in
     let counted : Bool = is_counted v x.time in
@@ -175,8 +175,8 @@ idle_counts v k x t owed none =
     let lossy : List Lossy = loss_of b (found_of 0 t) in
     let none_lossy : List Lossy = loss_of b (found_of 0 (idle_after x)) in
     let runs : first x.ready ≡ None = ap first none in
-    ap (λ (l : Looked). counts_after v k l (found_of (process_in l.start) t)) (idle_looked v x owed none)
+    ap (λ (l : Looked). counted_after v k l (found_of (process_of_start l.start) t)) (idle_looked v x owed none)
     ∙ (ap (λ (o : Option ℕ). counts_by counted k false o (first t.ready) (is_some t.owed) lost lossy) runs
     ∙ (counts_twice counted k (first t.ready) (is_some t.owed) lost none_lost lossy none_lossy
     ∙ (sym (ap (λ (o : Option ℕ). counts_by counted (counts_by counted k false o o true none_lost none_lossy) true o (first t.ready) (is_some t.owed) lost lossy) runs)
-    ∙ sym (ap (λ (l : Looked). counts_after v (counts_after v k l (found_of (process_in l.start) (idle_after x))) (looked_of v (idle_after x)) (found_of 0 t)) (idle_looked v x owed none)))))
+    ∙ sym (ap (λ (l : Looked). counted_after v (counted_after v k l (found_of (process_of_start l.start) (idle_after x))) (looked_of v (idle_after x)) (found_of 0 t)) (idle_looked v x owed none)))))

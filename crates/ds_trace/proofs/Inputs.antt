@@ -8,21 +8,21 @@ use Rattle.ds_policy.specs.PolicyParts.{sources_of}
 use Rattle.ds_policy.specs.InputText.{input_of}
 use Rattle.ds_pagemap.specs.Machine.{State}
 use Rattle.ds_pagemap.specs.First.{first_state}
-use Rattle.ds_pagemap.specs.Text.{text_of}
+use Rattle.ds_pagemap.specs.Text.{state_text}
 use Rattle.ds_log.proofs.Sends.{appends_both, part_before}
 use Rattle.ds_pagemap.specs.Inputs.{Refusal, Sources, check, images_from, input_read, inputs_under, inputs_under_by}
 use Rattle.ds_pagemap.specs.Inputs as refusal
 use Rattle.ds_refinement.specs.Held.{Held}
 use Rattle.ds_refinement.specs.Stands.{Stands}
-use Rattle.ds_station.specs.Headline.{Begins, BeginsWith, IsRefused, Loaded, Refuses, loaded}
+use Rattle.ds_station.specs.Headline.{Begins, BeginsWith, IsRefused, Loaded, Refuses, loaded_with}
 use Rattle.ds_station.specs.declared.fault.Fault.{Fault}
 use Rattle.ds_station.specs.declared.fault.Fault.TheVariants as fault
 use Rattle.ds_words.specs.declared.view.View.{View}
 use Rattle.ds_trace.specs.Counts.{Counted}
 use Rattle.ds_trace.specs.Ends.{end_text}
 use Rattle.ds_trace.specs.Traces.{counts_along, told_to, trace_along, TraceEndsBy, TraceEndsReally, WritesShort, WritesTold, WritesToldPart, WritesTrace, WritesTraceBy, WritesTracePart, WritesTracePartReally, WritesTraceReally, WritesTraceShort, WritesTraceShortReally}
-use Rattle.ds_trace.specs.Shows.{Traces, TracesPart, TracesShort}
-use Rattle.ds_trace.specs.Handed.{IsLate}
+use Rattle.ds_trace.specs.Inner.Shows.{Traces, TracesPart, TracesShort}
+use Rattle.ds_trace.specs.Inner.Handed.{IsLate}
 use Rattle.ds_trace.specs.Processors.{TellsFrom, TellsProcessor}
 use Rattle.ds_trace.proofs.Processing.{processor_of_some}
 
@@ -95,10 +95,10 @@ short_part v old new n m Tells (inl t) = record {
   processor = t.processor;
   processed = t.processed;
   written = record {
-    part = told_to v n m t.last t.prefix.reached t.processor ++ text_of t.last;
+    part = told_to v n m t.last t.prefix.reached t.processor ++ state_text t.last;
     rest = [];
-    whole = append-nil (told_to v n m t.last t.prefix.reached t.processor ++ text_of t.last);
-    appends = appends_both old t.between new (told_to v n m t.last t.prefix.reached t.processor) (text_of t.last) t.trace t.written;
+    whole = append-nil (told_to v n m t.last t.prefix.reached t.processor ++ state_text t.last);
+    appends = appends_both old t.between new (told_to v n m t.last t.prefix.reached t.processor) (state_text t.last) t.trace t.written;
   };
 }
 short_part v old new n m Tells (inr t) =
@@ -108,7 +108,7 @@ short_part v old new n m Tells (inr t) =
       reached = t.reached;
       processor = t.processor;
       processed = t.processed;
-      written = part_before old new (lines ++ t.processor ++ end) (text_of t.last) (part_before old new (lines ++ t.processor) end (part_before old new lines t.processor t.written));
+      written = part_before old new (lines ++ t.processor ++ end) (state_text t.last) (part_before old new (lines ++ t.processor) end (part_before old new lines t.processor t.written));
     }
 
 -- a run that was told to its end
@@ -149,7 +149,7 @@ first_then (Ok y) f g same = same y
 first_then (Err r) f g same = refl
 
 -- so it is made of the inputs
-first_of : (policy : PolicyValue) (sources : Sources) (input : List ℕ) (n random : ℕ) → inputs_under policy sources input n random ≡ first_in (inputs_under_by loaded policy sources input n random)
+first_of : (policy : PolicyValue) (sources : Sources) (input : List ℕ) (n random : ℕ) → inputs_under policy sources input n random ≡ first_in (inputs_under_by loaded_with policy sources input n random)
 unfolding inputs_under inputs_under_by
 first_of policy sources input n random =
     first_then (images_from sources [] (sources_of policy.pages)) _ _ (λ images.
@@ -166,8 +166,8 @@ state_or other (Ok m) = m
 state_or other (Err r) = other
 
 -- a station that was prepared of the inputs does
-pub begins_at : (h : Held) (policy : PolicyValue) (sources : Sources) (input : List ℕ) (n random start : ℕ) → Begins (inputs_under policy sources input n random) (Stands h) → Begins (inputs_under_by loaded policy sources input n random) (BeginsWith start h)
-    → Begins (inputs_under_by loaded policy sources input n random) (BeginsAt start h)
+pub begins_at : (h : Held) (policy : PolicyValue) (sources : Sources) (input : List ℕ) (n random start : ℕ) → Begins (inputs_under policy sources input n random) (Stands h) → Begins (inputs_under_by loaded_with policy sources input n random) (BeginsWith start h)
+    → Begins (inputs_under_by loaded_with policy sources input n random) (BeginsAt start h)
 begins_at h policy sources input n random start b l =
     let same : Ok b.0 ≡ Ok (first_state l.0.policy l.0.images l.0.input) = sym b.1 ∙ (first_of policy sources input n random ∙ ap first_in l.1) in
     (l.0, l.1, (l.2, subst (Stands h) (ap (state_or b.0) same) b.2))

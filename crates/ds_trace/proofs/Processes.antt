@@ -11,7 +11,7 @@ use Rattle.ds_station.specs.Reads.{address_held, general_held}
 use Rattle.ds_words.specs.declared.view.View.{View}
 use Rattle.ds_trace.specs.Changes.{standing_line, standings_text}
 use Rattle.ds_trace.specs.Ends.{process_text}
-use Rattle.ds_trace.specs.Shows.{processes_held}
+use Rattle.ds_trace.specs.Inner.Shows.{processes_held}
 
 -- how each of them stands
 abbrev pub standings_of : List Process → List Standing

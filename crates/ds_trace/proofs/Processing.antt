@@ -15,13 +15,14 @@ use Rattle.ds_core.specs.Core.{CoreState}
 use Rattle.ds_refinement.specs.Stands.{CountedBy, Stands}
 use Rattle.ds_refinement.specs.Steps.{steps_left}
 use Rattle.ds_refinement.specs.Real.{RealPath}
-use Rattle.ds_refinement.specs.Runs.{RunsWithin, held_goes_on}
-use Rattle.ds_refinement.specs.Services.{with_failure}
+use Rattle.ds_refinement.specs.Runs.{held_goes_on}
+use Rattle.ds_refinement.specs.Inner.Runs.{RunsWithin}
+use Rattle.ds_refinement.specs.Inner.Services.{with_failure}
 use Rattle.ds_refinement.proofs.RunSteps.{goes_alike}
 use Rattle.ds_refinement.proofs.Joined.{through_both}
 use Rattle.ds_refinement.proofs.Standing.{own_unseen}
-use Rattle.ds_kernel.specs.Going.{rank}
-use Rattle.ds_kernel.specs.Ran.{HasRun}
+use Rattle.ds_kernel.specs.Inner.Going.{rank}
+use Rattle.ds_kernel.specs.Inner.Ran.{HasRun}
 use Rattle.ds_station.specs.declared.fault.Fault.{Fault}
 use Rattle.ds_station.specs.declared.stage.Stage.{Stage}
 use Rattle.ds_station.specs.declared.stage.Stage.TheVariants.{Rest, Instruction, Refill, Service, DoubleMiss}
@@ -30,9 +31,10 @@ use Rattle.ds_words.specs.declared.view.View.{View}
 use Rattle.ds_words.specs.Views.{is_before}
 use Rattle.ds_trace.specs.declared.processor.ProcessorCounts.{ProcessorCounts}
 use Rattle.ds_trace.specs.declared.window.WindowEnd.{WindowEnd}
-use Rattle.ds_trace.specs.Processors.{HasProcessed, HasProcessedFrom, IsEarly, IsPassed, StepsTo, TellsFrom, TellsIf, TellsProcessor, entries_text, entry_text, is_within, left_along, left_by, left_text, none_processed, processor_after, processor_text, stage_after, told_from, total, window_end, window_text}
-use Rattle.ds_trace.specs.Counted.{CountsStep, HasCounted, HasLeft, HasPassed, IsCounting, IsStepped, IsWatched, WatchesAfter, WatchesAt, WatchesBy}
-use Rattle.ds_trace.specs.Shows.{processor_held}
+use Rattle.ds_trace.specs.Processors.{HasProcessed, HasProcessedFrom, IsEarly, IsPassed, StepsTo, TellsFrom, TellsIf, TellsProcessor, buffer_lines_text, valid_entry_text, is_in_window, left_along, left_by, window_left_text, none_processed, processor_after, processor_text, stage_after, told_from, window_end, window_text}
+use Rattle.ds_trace.specs.Inner.Processors.{total}
+use Rattle.ds_trace.specs.Inner.Counted.{CountsStep, HasCounted, HasLeft, HasPassed, IsCounting, IsStepped, IsWatched, WatchesAfter, WatchesAt, WatchesBy}
+use Rattle.ds_trace.specs.Inner.Shows.{processor_held}
 
 -- Few are counted.
 
@@ -73,9 +75,9 @@ stays_out true h e d same = same
 stays_out false h e d same = same
 
 -- a station at which no window was left, nor before it, is within the window
-pub within_before : (window : Option ℕ) (before : Option Held) (h : Held) → left_by window before h ≡ None → is_within window h ≡ true
+pub within_before : (window : Option ℕ) (before : Option Held) (h : Held) → left_by window before h ≡ None → is_in_window window h ≡ true
 within_before window (Some left) h none = absurd (cc)
-within_before window None h none = by (is_within window h) none
+within_before window None h none = by (is_in_window window h) none
   where
     by : (b : Bool) → cond b None (Some h) ≡ None → b ≡ true
     by true none = refl
@@ -89,17 +91,17 @@ module _ (window : Option ℕ) (n : ℕ) (start new : Held) (owed : Bool) (e d :
     awaited = tells.0;
     left = record {
       passed = passed refl;
-      told = tells.1 ∙ ap (λ (l : List ℕ). l ++ left_text new) watched.left.told;
+      told = tells.1 ∙ ap (λ (l : List ℕ). l ++ window_left_text new) watched.left.told;
     };
   }
 
-  pub watched_more : (left : Option Held) → (left ≡ None → is_within window new ≡ false → HasPassed n start (Some new)) → IsWatched window n start left e → IsWatched window n start (left_by window left new) d
+  pub watched_more : (left : Option Held) → (left ≡ None → is_in_window window new ≡ false → HasPassed n start (Some new)) → IsWatched window n start left e → IsWatched window n start (left_by window left new) d
   watched_more (Some before) passed watched =
       let none : WatchesBy (owed || true) new e d = subst (λ (w : Option ℕ). WatchesBy (owed || is_before w new.kept.state.time) new e d) watched.awaited watches in
       subst (IsWatched window n start (Some before)) (sym (stays_out owed new e d none)) watched
   watched_more None passed watched =
       let here : WatchesBy (owed || is_before window new.kept.state.time) new e d = subst (λ (w : Option ℕ). WatchesBy (owed || is_before w new.kept.state.time) new e d) watched.awaited watches in
-      watched_by (is_within window new) (passed refl) (subst (λ (b : Bool). WatchesBy (b || is_before window new.kept.state.time) new e d) is here) watched
+      watched_by (is_in_window window new) (passed refl) (subst (λ (b : Bool). WatchesBy (b || is_before window new.kept.state.time) new e d) is here) watched
 
 -- at the first station
 pub watched_first : (window : Option ℕ) (n : ℕ) (start new : Held) (e d : WindowEnd) → e.awaited ≡ window → string_bytes e.lines ≡ [] → WatchesAt false new e d → new.kept.state.owed ≡ None → new.own.spent ≡ 0 → RunsWithin n start new → IsWatched window n start (left_by window None new) d
@@ -258,7 +260,7 @@ unfolding after
 runs_nowhere k h = record { runs = λ m s. (m, record { choices = []; early = false; comes_to = refl }, s) }
 
 passed_nowhere : (window : Option ℕ) (n : ℕ) (h : Held) → h.own.spent ≡ 0 → HasPassed n h (left_by window None h)
-passed_nowhere window n h unbegun = by (is_within window h)
+passed_nowhere window n h unbegun = by (is_in_window window h)
   where
     by : (b : Bool) → HasPassed n h (cond b None (Some h))
     by true = tt
@@ -332,10 +334,10 @@ processor_of_some v n start m last text told = by v.processor told.1
 drop_some : {X : Type 0} → (xs : List X) (i : ℕ) (x : X) → slice_get xs i ≡ Some x → drop i xs ≡ x ∷ drop (i + 1) xs
 drop_some {X} xs i x is = drop_more xs i x (slice_get_within xs i x is) ∙ ap (λ (y : X). y ∷ drop (i + 1) xs) (get_or_from_slice_get xs i x x is)
 
-pub entry_more : (entries : List Entry) (slot : ℕ) (e : Entry) (line new whole : List ℕ) → slice_get entries slot ≡ Some e → new ≡ line ++ entry_text slot e
-    → line ++ entries_text slot (drop slot entries) ≡ whole → new ++ entries_text (slot + 1) (drop (slot + 1) entries) ≡ whole
+pub entry_more : (entries : List Entry) (slot : ℕ) (e : Entry) (line new whole : List ℕ) → slice_get entries slot ≡ Some e → new ≡ line ++ valid_entry_text slot e
+    → line ++ buffer_lines_text slot (drop slot entries) ≡ whole → new ++ buffer_lines_text (slot + 1) (drop (slot + 1) entries) ≡ whole
 entry_more entries slot e line new whole is adds before =
-    let rest : List ℕ = entries_text (slot + 1) (drop (slot + 1) entries) in
+    let rest : List ℕ = buffer_lines_text (slot + 1) (drop (slot + 1) entries) in
     ap (λ (l : List ℕ). l ++ rest) adds
-    ∙ (append_assoc line (entry_text slot e) rest
-    ∙ (sym (ap (λ (l : List Entry). line ++ entries_text slot l) (drop_some entries slot e is)) ∙ before))
+    ∙ (append_assoc line (valid_entry_text slot e) rest
+    ∙ (sym (ap (λ (l : List Entry). line ++ buffer_lines_text slot l) (drop_some entries slot e is)) ∙ before))

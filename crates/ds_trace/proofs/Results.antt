@@ -8,14 +8,14 @@ use Rattle.ds_refinement.specs.Held.{Held}
 use Rattle.ds_station.specs.Reads.{general_held, memory_held}
 use Rattle.ds_words.specs.declared.view.View.{View}
 use Rattle.ds_trace.specs.declared.lines.Told.{Told}
-use Rattle.ds_trace.specs.Lines.{register_of, register_text, result_text}
-use Rattle.ds_trace.specs.Shows.{found_held}
+use Rattle.ds_trace.specs.Lines.{shown_register, register_text, result_text}
+use Rattle.ds_trace.specs.Inner.Shows.{found_held}
 use Rattle.ds_trace.specs.Stores.{reach_of, stored_at, stored_text}
 
 -- by these registers, among so many processes
 abbrev pub effect : View → Held → Told → List ℕ → ℕ → List ℕ
 effect v h t general count =
-    register_text v.names general (register_of t.word)
+    register_text v.names general (shown_register t.word)
     ++ (stored_text (memory_held h) count t.process (stored_at general (reach_of (instruction_of t.word)))
     ++ (if v.source then stored_text (memory_held h) count t.process t.loaded else []))
 

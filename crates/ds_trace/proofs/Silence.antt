@@ -17,8 +17,8 @@ use Rattle.ds_words.specs.Views.{is_end, has_lines, is_before, shows_turn}
 use Rattle.ds_trace.specs.declared.start.Start.{Start}
 use Rattle.ds_trace.specs.Looks.{Looked, Found}
 use Rattle.ds_trace.specs.Changes.{changes_text}
-use Rattle.ds_trace.specs.Counts.{Counted, none_counted, done_counted, switch_counted, counts_after}
-use Rattle.ds_trace.specs.Halves.{looked_of, found_of, process_in, done_text, opening_text, half_after, half_text, half_counts}
+use Rattle.ds_trace.specs.Counts.{Counted, none_counted, done_counted, switch_counted, counted_after}
+use Rattle.ds_trace.specs.Halves.{looked_of, found_of, process_of_start, done_text, opening_text, half_after, half_text, half_counts}
 use Rattle.ds_trace.specs.Traces.{next_counts, next_text, counts_along, trace_along}
 
 -- Half turns that are not told.
@@ -65,8 +65,8 @@ none_counts : (b : Bool) (more k : Counted) → cond (b && false) more k ≡ k
 none_counts true more k = refl
 none_counts false more k = refl
 
-counts_silent : (v : View) (k : ℕ) (c : Counted) (b : Looked) (f : Found) → IsSilent v k → b.began < k → counts_after v c b f ≡ c
-counts_silent v k c b f (inl end) early = ap (λ (o : Option Only). counts_after (record v { only = o }) c b f) end
+counts_silent : (v : View) (k : ℕ) (c : Counted) (b : Looked) (f : Found) → IsSilent v k → b.began < k → counted_after v c b f ≡ c
+counts_silent v k c b f (inl end) early = ap (λ (o : Option Only). counted_after (record v { only = o }) c b f) end
 counts_silent v k c b f (inr late) early =
     let more : Counted = switch_counted (done_counted c b f b.start) b.runner f.runner in
     ap (λ (x : Bool). cond (has_lines v && (x && is_before v.to b.began)) more c) (not_yet v.from b.began k early late)
@@ -121,9 +121,9 @@ module _ (v : View) (k n : ℕ) (within : k ≤ n) (silent : IsSilent v k) where
   untold_half m x d begun on before =
       let goes : goes_on n x ≡ true = longer (is_some x.owed) (not (is_over x)) x.time k n within on in
       let none : half_text v none_counted x (half_turn d x) ≡ [] =
-      half_silent v k none_counted (looked_of v x) (found_of (process_in (looked_of v x).start) (half_turn d x)) silent (began_early k x.owed x.time (not (is_over x)) begun on) in
+      half_silent v k none_counted (looked_of v x) (found_of (process_of_start (looked_of v x).start) (half_turn d x)) silent (began_early k x.owed x.time (not (is_over x)) begun on) in
       let uncounts : half_counts v none_counted x (half_turn d x) ≡ none_counted =
-      counts_silent v k none_counted (looked_of v x) (found_of (process_in (looked_of v x).start) (half_turn d x)) silent (began_early k x.owed x.time (not (is_over x)) begun on) in record {
+      counts_silent v k none_counted (looked_of v x) (found_of (process_of_start (looked_of v x).start) (half_turn d x)) silent (began_early k x.owed x.time (not (is_over x)) begun on) in record {
         choices = d ∷ before.choices;
         comes = ap (go n d) before.comes ∙ ap (λ (b : Bool). cond b (half_turn d x) x) goes;
         untold = ap (λ (l : List ℕ). l ++ next_text v n d (after n before.choices m) (counts_along v n before.choices m)) before.untold

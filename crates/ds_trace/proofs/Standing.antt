@@ -28,12 +28,12 @@ use Rattle.ds_trace.specs.Starts.{start_at, start_of, general_of}
 use Rattle.ds_trace.specs.Looks.{Looked, Found}
 use Rattle.ds_trace.specs.Boundaries.{due_by}
 use Rattle.ds_trace.specs.Changes.{changes_text}
-use Rattle.ds_trace.specs.Counts.{Counted, is_counted, done_counted, switch_counted, counts_after}
+use Rattle.ds_trace.specs.Counts.{Counted, is_counted, done_counted, switch_counted, counted_after}
 use Rattle.ds_trace.specs.Logs.{lines_of}
 use Rattle.ds_trace.specs.Summaries.{summary_text}
-use Rattle.ds_trace.specs.Halves.{log_of, told_table, looked_of, found_of, next_boundary, process_in, done_text, opening_text, half_after}
+use Rattle.ds_trace.specs.Halves.{log_of, told_table, looked_of, found_of, next_boundary, process_of_start, done_text, opening_text, half_after}
 use Rattle.ds_trace.specs.Ends.{process_text, processes_text, end_text}
-use Rattle.ds_trace.specs.Shows.{start_held, looked_held, found_held, half_held, counts_held, processes_held, end_held}
+use Rattle.ds_trace.specs.Inner.Shows.{start_held, looked_held, found_held, half_held, counts_held, processes_held, end_held}
 
 -- Processes in their seats.
 
@@ -197,24 +197,24 @@ module _ (h : Held) (m : State) (k : Stands h m) where
 
   -- a boundary tells of no registers
   half_stands_by : (v : View) (c : Counted) (b : Looked) (o : Option Start) → ((s : Start) → o ≡ Some s → general_held h s.process ≡ general_of m s.process)
-      → half_by v c b (found_held (process_in o) h) o ≡ half_by v c b (found_of (process_in o) m) o
+      → half_by v c b (found_held (process_of_start o) h) o ≡ half_by v c b (found_of (process_of_start o) m) o
   half_stands_by v c b None same = ap (λ (f : Found). half_by v c b f None) (found_alike [])
   half_stands_by v c b (Some s) same =
       ap (λ (f : Found). half_by v c b f (Some s)) (found_alike (general_held h s.process))
       ∙ ap (λ (general : List ℕ). half_by v c b (record (found_of 0 m) { general = general }) (Some s)) (same s refl)
 
-  pub half_stands : (v : View) (c : Counted) (b : Looked) → ((s : Start) → b.start ≡ Some s → general_held h s.process ≡ general_of m s.process) → half_held v c b h ≡ half_after v c b (found_of (process_in b.start) m)
+  pub half_stands : (v : View) (c : Counted) (b : Looked) → ((s : Start) → b.start ≡ Some s → general_held h s.process ≡ general_of m s.process) → half_held v c b h ≡ half_after v c b (found_of (process_of_start b.start) m)
   half_stands v c b same = half_stands_by v c b b.start same
 
   -- and so are the counts
   counts_stand_by : (v : View) (c : Counted) (b : Looked) (o : Option Start) → ((s : Start) → o ≡ Some s → general_held h s.process ≡ general_of m s.process)
-      → counts_by v c b (found_held (process_in o) h) o ≡ counts_by v c b (found_of (process_in o) m) o
+      → counts_by v c b (found_held (process_of_start o) h) o ≡ counts_by v c b (found_of (process_of_start o) m) o
   counts_stand_by v c b None same = ap (λ (f : Found). counts_by v c b f None) (found_alike [])
   counts_stand_by v c b (Some s) same =
       ap (λ (f : Found). counts_by v c b f (Some s)) (found_alike (general_held h s.process))
       ∙ ap (λ (general : List ℕ). counts_by v c b (record (found_of 0 m) { general = general }) (Some s)) (same s refl)
 
-  pub counts_stand : (v : View) (c : Counted) (b : Looked) → ((s : Start) → b.start ≡ Some s → general_held h s.process ≡ general_of m s.process) → counts_held v c b h ≡ counts_after v c b (found_of (process_in b.start) m)
+  pub counts_stand : (v : View) (c : Counted) (b : Looked) → ((s : Start) → b.start ≡ Some s → general_held h s.process ≡ general_of m s.process) → counts_held v c b h ≡ counted_after v c b (found_of (process_of_start b.start) m)
   counts_stand v c b same = counts_stand_by v c b b.start same
 
   -- The end.

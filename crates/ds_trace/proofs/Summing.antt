@@ -15,7 +15,8 @@ use Rattle.ds_pagemap.specs.Machine.{State, touched}
 use Rattle.ds_pagemap.specs.Run.{after}
 use Rattle.ds_refinement.specs.Held.{Held}
 use Rattle.ds_refinement.specs.Real.{RealPath}
-use Rattle.ds_refinement.specs.Runs.{RunsTo, RunsWithin, held_goes_on}
+use Rattle.ds_refinement.specs.Runs.{RunsTo, held_goes_on}
+use Rattle.ds_refinement.specs.Inner.Runs.{RunsWithin}
 use Rattle.ds_refinement.specs.Stands.{Stands}
 use Rattle.ds_refinement.proofs.RunSteps.{goes_alike}
 use Rattle.ds_station.specs.Headline.{Along, Begins, EndsBy, EndsReally, Loaded, Writes, WritesReally, held_text}
@@ -28,11 +29,12 @@ use Rattle.ds_words.specs.declared.view.View.{View}
 use Rattle.ds_listing.specs.declared.pages.PageLines.{PageLines}
 use Rattle.ds_words.specs.Views.{whole}
 use Rattle.ds_trace.specs.declared.processor.ProcessorCounts.{ProcessorCounts}
-use Rattle.ds_trace.specs.Counted.{HasCounted}
+use Rattle.ds_trace.specs.Inner.Counted.{HasCounted}
 use Rattle.ds_trace.specs.Counts.{Counted}
 use Rattle.ds_trace.specs.Processors.{told_from, window_end}
-use Rattle.ds_trace.specs.Shows.{IsCutIf, IsStopped, TellsAll}
-use Rattle.ds_trace.specs.Summed.{CountsAll, SumsUpShort, TellsOf, TracesSummed, WritesSummed, WritesTraceSummed, counting, summed_text}
+use Rattle.ds_trace.specs.Inner.Shows.{IsCutIf, IsStopped, TellsAll}
+use Rattle.ds_trace.specs.Summed.{summed_text}
+use Rattle.ds_trace.specs.Inner.Summed.{CountsAll, SumsUpShort, TellsOf, TracesSummed, WritesSummed, WritesTraceSummed, counting}
 use Rattle.ds_trace.specs.Traces.{counts_along, next_counts}
 use Rattle.ds_trace.proofs.Following.{ran_whole}
 use Rattle.ds_trace.proofs.Inputs.{BeginsAt}

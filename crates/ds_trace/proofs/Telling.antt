@@ -4,11 +4,11 @@ use Rattle.std.proofs.lemmas.Bool.Decides.{nat_tests}
 use Rattle.std.specs.Prelude.{◌||◌, ◌&&◌, not, nat_lt, is_some}
 use Rattle.std.specs.Io.KnownBytes.{Appends, Keeps}
 use Rattle.ds_log.specs.Sent.{AppendsPart}
-use Rattle.ds_log.proofs.Sends.{appends_kept, appends_none, appends_both, part_behind, part_before}
+use Rattle.ds_log.proofs.Sends.{appends_kept, appends_none, appends_both, part_after, part_before}
 use Rattle.ds_pagemap.specs.declared.turn.Turn.{Turn}
 use Rattle.ds_pagemap.specs.Machine.{State, first, touched}
 use Rattle.ds_pagemap.specs.Run.{half_turn, goes_on, is_over, after, Reaches}
-use Rattle.ds_pagemap.specs.Text.{text_of}
+use Rattle.ds_pagemap.specs.Text.{state_text}
 use Rattle.ds_pagemap.proofs.Runs.{half_after_touch, touched_or}
 use Rattle.ds_pagemap.proofs.Touches.{goes_on_touched}
 use Rattle.ds_promise.proofs.Stores.{touched_owed}
@@ -16,8 +16,10 @@ use Rattle.ds_refinement.specs.declared.step.Step.{Step}
 use Rattle.ds_refinement.specs.declared.step.Step.TheVariants.{Inside, Unit, Boundary, Over}
 use Rattle.ds_refinement.specs.Held.{Held}
 use Rattle.ds_refinement.specs.Stands.{Stands}
-use Rattle.ds_refinement.specs.Steps.{Follows, Moves, HalfTo, Stays}
-use Rattle.ds_refinement.specs.Runs.{RunsWithin, held_goes_on}
+use Rattle.ds_refinement.specs.Steps.{Follows, Moves, HalfTo}
+use Rattle.ds_refinement.specs.Inner.Steps.{Stays}
+use Rattle.ds_refinement.specs.Runs.{held_goes_on}
+use Rattle.ds_refinement.specs.Inner.Runs.{RunsWithin}
 use Rattle.ds_refinement.proofs.RunSteps.{goes_alike, begins_goes}
 use Rattle.ds_station.specs.Headline.{held_text}
 use Rattle.ds_station.specs.Reads.{general_held}
@@ -26,15 +28,16 @@ use Rattle.ds_words.specs.declared.view.View.{View}
 use Rattle.ds_trace.specs.declared.start.Start.{Start}
 use Rattle.ds_trace.specs.Starts.{general_of, start_of, next_start}
 use Rattle.ds_trace.specs.Looks.{Looked}
-use Rattle.ds_trace.specs.Counts.{Counted, none_counted, counts_after}
-use Rattle.ds_trace.specs.Halves.{looked_of, found_of, process_in, half_after, half_text, half_counts}
+use Rattle.ds_trace.specs.Counts.{Counted, none_counted, counted_after}
+use Rattle.ds_trace.specs.Halves.{looked_of, found_of, process_of_start, half_after, half_text, half_counts}
 use Rattle.ds_trace.specs.Ends.{end_text}
 use Rattle.ds_trace.specs.Processors.{TellsFrom}
 use Rattle.ds_trace.specs.declared.progress.Progress.{Progress}
-use Rattle.ds_trace.specs.Traces.{counts_along, trace_along, told_to, WritesLines, WritesToldBy, WritesToldPart, WritesToldSoFar}
-use Rattle.ds_trace.specs.Handed.{IsFinished, IsHandedOn}
-use Rattle.ds_trace.specs.Shows.{looked_held, half_held, counts_held, progress_held, end_held, IsTold}
-use Rattle.ds_trace.specs.Advanced.{is_last}
+use Rattle.ds_trace.specs.Traces.{counts_along, trace_along, told_to, WritesLines, WritesToldPart, WritesToldSoFar}
+use Rattle.ds_trace.specs.Inner.Traces.{WritesToldBy}
+use Rattle.ds_trace.specs.Inner.Handed.{IsFinished, IsHandedOn}
+use Rattle.ds_trace.specs.Inner.Shows.{looked_held, half_held, counts_held, progress_held, end_held, IsTold}
+use Rattle.ds_trace.specs.Inner.Advanced.{is_last}
 use Rattle.ds_trace.proofs.Touched.{looked_touched, half_touched, counts_touched, touched_ready}
 use Rattle.ds_trace.proofs.Idling.{idle_after, idle_turn, idle_looked, idle_opening, idle_text, idle_boundary, idle_counts}
 use Rattle.ds_trace.proofs.Silence.{IsSilent, IsUntold, untold}
@@ -127,15 +130,15 @@ module _ (v : View) (n : ℕ) (m : State) (h new : Held) (a d : Option (List ℕ
       let so_far : Counted = counts_along v n told.choices m in
       let line : half_held v b.counts b.before new ≡ half_text v so_far at (half_turn touch at) =
       half_stands new t k v b.counts b.before same
-      ∙ (ap (λ (y : State). half_after v b.counts b.before (found_of (process_in b.before.start) y)) is
-      ∙ (half_touched v b.counts b.before (process_in b.before.start) late (half_turn touch at)
-      ∙ (ap (λ (x : Looked). half_after v b.counts x (found_of (process_in x.start) (half_turn touch at))) told.looked
+      ∙ (ap (λ (y : State). half_after v b.counts b.before (found_of (process_of_start b.before.start) y)) is
+      ∙ (half_touched v b.counts b.before (process_of_start b.before.start) late (half_turn touch at)
+      ∙ (ap (λ (x : Looked). half_after v b.counts x (found_of (process_of_start x.start) (half_turn touch at))) told.looked
       ∙ ap (λ (x : Counted). half_text v x at (half_turn touch at)) told.counted))) in
       let counts : counts_held v b.counts b.before new ≡ half_counts v (counts_along v n told.choices m) at (half_turn touch at) =
       counts_stand new t k v b.counts b.before same
-      ∙ (ap (λ (y : State). counts_after v b.counts b.before (found_of (process_in b.before.start) y)) is
-      ∙ (counts_touched v b.counts b.before (process_in b.before.start) late (half_turn touch at)
-      ∙ (ap (λ (x : Looked). counts_after v b.counts x (found_of (process_in x.start) (half_turn touch at))) told.looked
+      ∙ (ap (λ (y : State). counted_after v b.counts b.before (found_of (process_of_start b.before.start) y)) is
+      ∙ (counts_touched v b.counts b.before (process_of_start b.before.start) late (half_turn touch at)
+      ∙ (ap (λ (x : Looked). counted_after v b.counts x (found_of (process_of_start x.start) (half_turn touch at))) told.looked
       ∙ ap (λ (x : Counted). half_counts v x at (half_turn touch at)) told.counted))) in record {
         choices = touch ∷ told.choices;
         early = late;
@@ -155,11 +158,11 @@ module _ (v : View) (n : ℕ) (m : State) (h new : Held) (a d : Option (List ℕ
 start_process : (b : Bool) (m : State) (o : Option ℕ) (s : Start) → cond b None (start_of m o) ≡ Some s → o ≡ Some s.process
 start_process true m o s is = absurd (cc)
 start_process false m None s is = absurd (cc)
-start_process false m (Some p) s is = let same : start_of m (Some p) ≡ Some s = is in ap process_in same
+start_process false m (Some p) s is = let same : start_of m (Some p) ≡ Some s = is in ap process_of_start same
   where
-    process_in : Option Start → Option ℕ
-    process_in None = None
-    process_in (Some x) = Some x.process
+    process_of_start : Option Start → Option ℕ
+    process_of_start None = None
+    process_of_start (Some x) = Some x.process
 
 no_start : (b : Bool) (m : State) (o : Option ℕ) (s : Start) → b ≡ true → cond b None (start_of m o) ≡ Some s → ⊥
 no_start true m o s owed is = absurd (cc)
@@ -272,10 +275,10 @@ module _ (v : View) (n : ℕ) (m : State) (h new : Held) (a d : Option (List ℕ
       let half : List ℕ = half_text v ticked (idle_after from) last in
       let line : half_held v b.counts b.before new ≡ opening ++ half =
       half_stands new t k v b.counts b.before (λ s starts. absurd (no_unit s starts owed none))
-      ∙ (ap (λ (y : State). half_after v b.counts b.before (found_of (process_in b.before.start) y)) came
-      ∙ (half_touched v b.counts b.before (process_in b.before.start) late last
-      ∙ (ap (λ (x : Looked). half_after v b.counts x (found_of (process_in x.start) last)) told.looked
-      ∙ (ap (λ (x : Counted). half_after v x (looked_of v from) (found_of (process_in (looked_of v from).start) last)) told.counted
+      ∙ (ap (λ (y : State). half_after v b.counts b.before (found_of (process_of_start b.before.start) y)) came
+      ∙ (half_touched v b.counts b.before (process_of_start b.before.start) late last
+      ∙ (ap (λ (x : Looked). half_after v b.counts x (found_of (process_of_start x.start) last)) told.looked
+      ∙ (ap (λ (x : Counted). half_after v x (looked_of v from) (found_of (process_of_start (looked_of v from).start) last)) told.counted
       ∙ idle_boundary v before from last owed none)))) in
       let first_count : counts_along v n (first_touch ∷ told.choices) m ≡ ticked =
       counts_more v n first_touch told.choices m on ∙ ap (half_counts v before from) (idle_turn from first_touch owed none) in
@@ -294,10 +297,10 @@ module _ (v : View) (n : ℕ) (m : State) (h new : Held) (a d : Option (List ℕ
       ∙ ap (λ (l : List ℕ). l ++ half) first_line)) in
       let counts : counts_held v b.counts b.before new ≡ half_counts v ticked (idle_after from) last =
       counts_stand new t k v b.counts b.before (λ s starts. absurd (no_unit s starts owed none))
-      ∙ (ap (λ (y : State). counts_after v b.counts b.before (found_of (process_in b.before.start) y)) came
-      ∙ (counts_touched v b.counts b.before (process_in b.before.start) late last
-      ∙ (ap (λ (x : Looked). counts_after v b.counts x (found_of (process_in x.start) last)) told.looked
-      ∙ (ap (λ (x : Counted). counts_after v x (looked_of v from) (found_of (process_in (looked_of v from).start) last)) told.counted
+      ∙ (ap (λ (y : State). counted_after v b.counts b.before (found_of (process_of_start b.before.start) y)) came
+      ∙ (counts_touched v b.counts b.before (process_of_start b.before.start) late last
+      ∙ (ap (λ (x : Looked). counted_after v b.counts x (found_of (process_of_start x.start) last)) told.looked
+      ∙ (ap (λ (x : Counted). counted_after v x (looked_of v from) (found_of (process_of_start (looked_of v from).start) last)) told.counted
       ∙ idle_counts v before from last owed none)))) in record {
         choices = touch ∷ first_touch ∷ told.choices;
         early = late;
@@ -359,7 +362,7 @@ module _ (v : View) (n : ℕ) (m : State) (h : Held) (a d e : Option (List ℕ))
   last_end : (k : Counted) → b.counts ≡ k → h.own.spent ≡ 0 → end_held v k h ≡ end_text v last_counts last_state
   last_end k is none = end_stands h last_state told.stands v k none ∙ ap (λ (x : Counted). end_text v x last_state) (sym is ∙ told.counted)
 
-  last_text : held_text h ≡ text_of last_state
+  last_text : held_text h ≡ state_text last_state
   last_text = text_alike h last_state told.stands
 
   pub told_part : AppendsPart d e text → WritesToldPart v a e n m (TellsFrom v n start m)
@@ -368,10 +371,10 @@ module _ (v : View) (n : ℕ) (m : State) (h : Held) (a d e : Option (List ℕ))
     reached = last_reached;
     processor = processor;
     processed = processed;
-    written = part_before a e (trace_along v n told.choices m ++ processor ++ end_text v last_counts last_state) (text_of last_state)
+    written = part_before a e (trace_along v n told.choices m ++ processor ++ end_text v last_counts last_state) (state_text last_state)
         (part_before a e (trace_along v n told.choices m ++ processor) (end_text v last_counts last_state)
         (part_before a e (trace_along v n told.choices m) processor
-        (subst (AppendsPart a e) told.told (part_behind a d e told.sent text told.appends part))));
+        (subst (AppendsPart a e) told.told (part_after a d e told.sent text told.appends part))));
   }
 
   -- of the lines, where nothing more is written
@@ -385,12 +388,12 @@ module _ (v : View) (n : ℕ) (m : State) (h : Held) (a d e : Option (List ℕ))
   }
 
   -- with the end's text and the text of the state
-  both_are : (k : Counted) → b.counts ≡ k → h.own.spent ≡ 0 → told.sent ++ (text ++ processor ++ end_held v k h ++ held_text h) ≡ told_to v n m last_state last_reached processor ++ text_of last_state
+  both_are : (k : Counted) → b.counts ≡ k → h.own.spent ≡ 0 → told.sent ++ (text ++ processor ++ end_held v k h ++ held_text h) ≡ told_to v n m last_state last_reached processor ++ state_text last_state
   both_are k is none =
       ap (λ (l : List ℕ). told.sent ++ (text ++ processor ++ l ++ held_text h)) (last_end k is none)
       ∙ (ap (λ (l : List ℕ). told.sent ++ (text ++ processor ++ end_text v last_counts last_state ++ l)) last_text
-      ∙ (sym (append_assoc told.sent (text ++ processor ++ end_text v last_counts last_state) (text_of last_state))
-      ∙ ap (λ (l : List ℕ). l ++ text_of last_state) (trace_is)))
+      ∙ (sym (append_assoc told.sent (text ++ processor ++ end_text v last_counts last_state) (state_text last_state))
+      ∙ ap (λ (l : List ℕ). l ++ state_text last_state) (trace_is)))
     where
       trace_is : told.sent ++ (text ++ processor ++ end_text v last_counts last_state) ≡ trace_along v n told.choices m ++ processor ++ end_text v last_counts last_state
       trace_is = after_lines told.sent (text ++ processor) (trace_along v n told.choices m ++ processor) (end_text v last_counts last_state)
@@ -402,7 +405,7 @@ module _ (v : View) (n : ℕ) (m : State) (h : Held) (a d e : Option (List ℕ))
     reached = last_reached;
     processor = processor;
     processed = processed;
-    written = subst (AppendsPart a e) (both_are k is none) (part_behind a d e told.sent (text ++ processor ++ end_held v k h ++ held_text h) told.appends part);
+    written = subst (AppendsPart a e) (both_are k is none) (part_after a d e told.sent (text ++ processor ++ end_held v k h ++ held_text h) told.appends part);
   }
 
   -- the trace and its end's text are written

@@ -21,18 +21,18 @@ use Rattle.ds_trace.specs.declared.lines.Told.{Told}
 use Rattle.ds_trace.specs.declared.start.Start.{Start}
 use Rattle.ds_trace.specs.declared.stores.Reach.{Reach}
 use Rattle.ds_trace.specs.Looks.{Looked, Found}
-use Rattle.ds_trace.specs.Starts.{is_call, call_at, slot_of, page_at, start_at, start_of, general_of}
-use Rattle.ds_trace.specs.Calls.{answer_text, call_told}
+use Rattle.ds_trace.specs.Starts.{is_call, call_at, slot_of, page_named_at, start_at, start_of, general_of}
+use Rattle.ds_trace.specs.Calls.{call_answer_text, call_told}
 use Rattle.ds_trace.specs.Stores.{is_lost, reach_of, stored_at, stored_text}
 use Rattle.ds_trace.specs.Loads.{load_reach, loaded_at, slot_loaded_at, unlinked}
-use Rattle.ds_trace.specs.Lines.{is_hidden, shown, register_of, register_text, loaded_text, result_text, front_text, source_text, told_line, first_told, slot_told, first_line, slot_line, unit_text, was_done, denied_text}
+use Rattle.ds_trace.specs.Lines.{is_hidden, shown, shown_register, register_text, loaded_text, result_text, front_text, source_place_text, told_line, first_told, slot_told, first_line, slot_line, unit_text, was_done, logged_text}
 use Rattle.ds_trace.specs.Boundaries.{due_by}
 use Rattle.ds_trace.specs.Changes.{changes_text, standing_text}
-use Rattle.ds_trace.specs.Counts.{Counted, is_counted, unit_counted, done_counted, switch_counted, counts_after}
-use Rattle.ds_trace.specs.Halves.{log_of, next_boundary, told_table, looked_of, found_of, process_in, entries_text, done_text, opening_text, half_after, half_text, half_counts}
+use Rattle.ds_trace.specs.Counts.{Counted, is_counted, unit_counted, done_counted, switch_counted, counted_after}
+use Rattle.ds_trace.specs.Halves.{log_of, next_boundary, told_table, looked_of, found_of, process_of_start, changed_entries_text, done_text, opening_text, half_after, half_text, half_counts}
 use Rattle.ds_trace.specs.Logs.{lines_of}
 use Rattle.ds_trace.specs.Summaries.{summary_text}
-use Rattle.ds_trace.specs.Ends.{left_text, registers_text, parked_text, process_text, processes_text, end_text}
+use Rattle.ds_trace.specs.Ends.{register_left_text, registers_text, parked_text, process_text, processes_text, end_text}
 
 -- Of a list in which one element was changed.
 
@@ -100,8 +100,8 @@ start_with s time p pc call number loaded slot_loaded = record {
   slot = slot_of s p pc (fetched s p pc);
   call = call;
   number = number;
-  page = page_at s p pc;
-  slot_page = page_at s p (word (pc + 4));
+  page = page_named_at s p pc;
+  slot_page = page_named_at s p (word (pc + 4));
   loaded = loaded;
   slot_loaded = slot_loaded;
 }
@@ -179,16 +179,16 @@ abbrev left_by : View → Told → Found → List ℕ → Option ℕ → List �
 left_by v t f register a = if t.done then register ++ (stored_text f.memory (length f.standings) t.process a ++ loaded_text v t f) else []
 
 result_kept : (v : View) (t : Told) (f : Found) (pc : ℕ) → result_text v t (touched_found f pc) ≡ result_text v t f
-unfolding register_of
+unfolding shown_register
 result_kept v t f pc =
     ap (λ (l : List ℕ). left_by v t f l (stored_at (touched_general f.general pc) (reach_of (instruction_of t.word))))
     (register_kept v.names f.general pc (cond (is_call (instruction_of t.word)) (Some 2) (uses (instruction_of t.word)).writes))
-    ∙ ap (left_by v t f (register_text v.names f.general (register_of t.word))) (stored_kept f.general pc (reach_of (instruction_of t.word)))
+    ∙ ap (left_by v t f (register_text v.names f.general (shown_register t.word))) (stored_kept f.general pc (reach_of (instruction_of t.word)))
 
 line_kept : (v : View) (t : Told) (f : Found) (pc : ℕ) → told_line v t (touched_found f pc) ≡ told_line v t f
 line_kept v t f pc =
-    ap (λ (r : List ℕ). source_text v t ++ (front_text v.names t ++ call_told v.source t.number t.call ++ r ++ answer_text t.call (slice_index (touched_general f.general pc) 2) ++ codes "\n")) (result_kept v t f pc)
-    ∙ ap (λ (n : ℕ). source_text v t ++ (front_text v.names t ++ call_told v.source t.number t.call ++ result_text v t f ++ answer_text t.call n ++ codes "\n")) (other_kept f.general pc 2 refl)
+    ap (λ (r : List ℕ). source_place_text v t ++ (front_text v.names t ++ call_told v.source t.number t.call ++ r ++ call_answer_text t.call (slice_index (touched_general f.general pc) 2) ++ codes "\n")) (result_kept v t f pc)
+    ∙ ap (λ (n : ℕ). source_place_text v t ++ (front_text v.names t ++ call_told v.source t.number t.call ++ result_text v t f ++ call_answer_text t.call n ++ codes "\n")) (other_kept f.general pc 2 refl)
 
 first_kept : (v : View) (s : Start) (done : Bool) (f : Found) (pc : ℕ) (o : Option ℕ) → first_line v s done (touched_found f pc) o ≡ first_line v s done f o
 first_kept v s done f pc None = refl
@@ -206,7 +206,7 @@ unit_kept v s done f pc =
 done_kept : (v : View) (b : Looked) (f : Found) (pc : ℕ) (o : Option Start) → done_text v b (touched_found f pc) o ≡ done_text v b f o
 done_kept v b f pc None = refl
 done_kept v b f pc (Some s) =
-    ap (λ (l : List ℕ). (cond (shows_unit v s.process (is_some s.call)) l [] ++ cond (shows_denials v s.process) (denied_text (drop b.logged f.log)) []) ++ entries_text v b f)
+    ap (λ (l : List ℕ). (cond (shows_unit v s.process (is_some s.call)) l [] ++ cond (shows_denials v s.process) (logged_text (drop b.logged f.log)) []) ++ changed_entries_text v b f)
     (unit_kept v s (was_done s (drop b.logged f.log)) f pc)
 
 half_kept : (v : View) (k : Counted) (b : Looked) (f : Found) (pc : ℕ) → half_after v k b (touched_found f pc) ≡ half_after v k b f
@@ -245,8 +245,8 @@ half_touched v k b p late t = found_touched (half_after v k b) (half_kept v k b)
 
 pub lines_touched : (v : View) (k : Counted) (a b : Bool) (m t : State) → half_text v k (touched a m) (touched b t) ≡ half_text v k m t
 lines_touched v k a b m t =
-    ap (λ (l : Looked). half_after v k l (found_of (process_in l.start) (touched b t))) (looked_touched v a m)
-    ∙ half_touched v k (looked_of v m) (process_in (looked_of v m).start) b t
+    ap (λ (l : Looked). half_after v k l (found_of (process_of_start l.start) (touched b t))) (looked_touched v a m)
+    ∙ half_touched v k (looked_of v m) (process_of_start (looked_of v m).start) b t
 
 -- The counts.
 
@@ -254,20 +254,20 @@ done_counts_kept : (k : Counted) (b : Looked) (f : Found) (pc : ℕ) (o : Option
 done_counts_kept k b f pc None = refl
 done_counts_kept k b f pc (Some s) = ap (λ (answer : ℕ). unit_counted k s (drop b.logged f.log) answer) (other_kept f.general pc 2 refl)
 
-counts_kept : (v : View) (k : Counted) (b : Looked) (f : Found) (pc : ℕ) → counts_after v k b (touched_found f pc) ≡ counts_after v k b f
+counts_kept : (v : View) (k : Counted) (b : Looked) (f : Found) (pc : ℕ) → counted_after v k b (touched_found f pc) ≡ counted_after v k b f
 counts_kept v k b f pc = ap (λ (d : Counted). cond (is_counted v b.began) (switch_counted d b.runner f.runner) k) (done_counts_kept k b f pc b.start)
 
-pub counts_touched : (v : View) (k : Counted) (b : Looked) (p : ℕ) (late : Bool) (t : State) → counts_after v k b (found_of p (touched late t)) ≡ counts_after v k b (found_of p t)
-counts_touched v k b p late t = found_touched (counts_after v k b) (counts_kept v k b) p late t
+pub counts_touched : (v : View) (k : Counted) (b : Looked) (p : ℕ) (late : Bool) (t : State) → counted_after v k b (found_of p (touched late t)) ≡ counted_after v k b (found_of p t)
+counts_touched v k b p late t = found_touched (counted_after v k b) (counts_kept v k b) p late t
 
 pub half_counts_touched : (v : View) (k : Counted) (a b : Bool) (m t : State) → half_counts v k (touched a m) (touched b t) ≡ half_counts v k m t
 half_counts_touched v k a b m t =
-    ap (λ (l : Looked). counts_after v k l (found_of (process_in l.start) (touched b t))) (looked_touched v a m)
-    ∙ counts_touched v k (looked_of v m) (process_in (looked_of v m).start) b t
+    ap (λ (l : Looked). counted_after v k l (found_of (process_of_start l.start) (touched b t))) (looked_touched v a m)
+    ∙ counts_touched v k (looked_of v m) (process_of_start (looked_of v m).start) b t
 
 -- The end.
 
-left_hidden : (names : RegisterNames) (n value : ℕ) → is_hidden n ≡ true → left_text names n value ≡ []
+left_hidden : (names : RegisterNames) (n value : ℕ) → is_hidden n ≡ true → register_left_text names n value ≡ []
 left_hidden names n value is = ap (λ (b : Bool). cond (b || (value == 0)) [] (codes "  " ++ register_as names n ++ codes "=" ++ hex8 value)) is
 
 -- a register that is never shown may be changed
@@ -279,7 +279,7 @@ registers_set names n (x ∷ xs) zero value is =
     ap (λ (l : List ℕ). l ++ registers_text names (n + 1) xs) (left_hidden names n value hidden ∙ sym (left_hidden names n x hidden))
 registers_set names n (x ∷ xs) (suc i) value is =
     let on : n + suc i ≡ n + 1 + i = omega arith in
-    ap (λ (l : List ℕ). left_text names n x ++ l) (registers_set names (n + 1) xs i value (sym (ap is_hidden on) ∙ is))
+    ap (λ (l : List ℕ). register_left_text names n x ++ l) (registers_set names (n + 1) xs i value (sym (ap is_hidden on) ∙ is))
 
 registers_kept : (names : RegisterNames) (general : List ℕ) (pc : ℕ) → registers_text names 0 (touched_general general pc) ≡ registers_text names 0 general
 registers_kept names general pc = registers_set names 0 (set general 26 0) 27 pc refl ∙ registers_set names 0 general 26 0 refl

@@ -9,7 +9,7 @@ use Rattle.ds_station.specs.Outcome.{first_unended}
 use Rattle.ds_station.specs.Reads.{address_held}
 use Rattle.ds_station.specs.declared.outcome.Unended.{Unended}
 use Rattle.ds_trace.specs.Changes.{standing_text}
-use Rattle.ds_trace.specs.Logs.{fourth_word, last_of, lines_of, rules_of, rules_text, sixth_word}
+use Rattle.ds_trace.specs.Logs.{fourth_word, last_of, lines_of, denied_rules, rules_text, sixth_word}
 
 -- what a rule does not let a process do, by what was denied
 abbrev pub denied_words : List ℕ → List ℕ
@@ -36,14 +36,14 @@ why_by None = []
 why_by (Some line) = codes " by " ++ line ++ codes ": " ++ rule_words (sixth_word line) (fourth_word line)
 
 -- where it is parked
-abbrev pub why_text : List (List ℕ) → ℕ → Standing → List ℕ
-why_text lines p Parked = why_by (last_of p lines)
-why_text lines p other = []
+abbrev pub why_parked_text : List (List ℕ) → ℕ → Standing → List ℕ
+why_parked_text lines p Parked = why_by (last_of p lines)
+why_parked_text lines p other = []
 
 -- the line of a process: its number, how it stands and where, and why
 abbrev pub stands_text : List (List ℕ) → ℕ → Standing → ℕ → List ℕ
 stands_text lines p standing pc =
-    (codes "process " ++ decimal p ++ codes " " ++ standing_text standing ++ codes " " ++ hex8 pc) ++ why_text lines p standing ++ codes "\n"
+    (codes "process " ++ decimal p ++ codes " " ++ standing_text standing ++ codes " " ++ hex8 pc) ++ why_parked_text lines p standing ++ codes "\n"
 
 -- the lines of so many processes, the first of which has this number
 abbrev pub all_stand : List (List ℕ) → Held → ℕ → ℕ → List ℕ
@@ -63,7 +63,7 @@ came_text n lines h =
 
 -- what was denied by each rule
 abbrev pub denied_by : List (List ℕ) → List ℕ
-denied_by lines = rules_text [] (rules_of lines)
+denied_by lines = rules_text [] (denied_rules lines)
 
 -- the account of a run for n by what a station holds at its end
 abbrev pub account_text : ℕ → Held → List ℕ

@@ -13,8 +13,8 @@ due_by time [] = []
 due_by time (c ∷ rest) = if nat_le c.time time then c ∷ due_by time rest else []
 
 -- a process and an address, each after a blank
-abbrev pub place_text : ℕ → ℕ → List ℕ
-place_text p address = codes " " ++ decimal p ++ codes " " ++ hex8 address
+abbrev pub entry_place_text : ℕ → ℕ → List ℕ
+entry_place_text p address = codes " " ++ decimal p ++ codes " " ++ hex8 address
 
 -- the line of a command that is carried out at a time
 abbrev pub command_line : ℕ → TimedCommand → List ℕ
@@ -30,15 +30,15 @@ abbrev pub key_line : ℕ → ℕ → ℕ → List ℕ
 key_line time line byte = decimal time ++ codes " key " ++ decimal line ++ codes " " ++ hex2 byte ++ codes "\n"
 
 -- those of characters on a line
-abbrev pub line_text : ℕ → ℕ → List ℕ → List ℕ
-line_text time line [] = []
-line_text time line (byte ∷ rest) = key_line time line byte ++ line_text time line rest
+abbrev pub characters_line_text : ℕ → ℕ → List ℕ → List ℕ
+characters_line_text time line [] = []
+characters_line_text time line (byte ∷ rest) = key_line time line byte ++ characters_line_text time line rest
 
 -- the characters that came to queues of these lengths, line by line from this one on
 abbrev pub keys_text : ℕ → ℕ → List ℕ → List (List ℕ) → List ℕ
 keys_text time line [] queues = []
 keys_text time line (n ∷ lengths) [] = []
-keys_text time line (n ∷ lengths) (queue ∷ queues) = line_text time line (drop n queue) ++ keys_text time (line + 1) lengths queues
+keys_text time line (n ∷ lengths) (queue ∷ queues) = characters_line_text time line (drop n queue) ++ keys_text time (line + 1) lengths queues
 
 -- how many they are
 abbrev pub count_keys : List ℕ → List (List ℕ) → ℕ

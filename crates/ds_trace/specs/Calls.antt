@@ -58,8 +58,8 @@ refusal_text n =
     if n == 19 then codes " NotGiven" else []
 
 -- the refusal of a call about grants, where its answer is one
-abbrev pub answer_text : Option Call → ℕ → List ℕ
-answer_text (Some (call.Give address receiver to mode)) n = refusal_text n
-answer_text (Some (call.Take process address)) n = refusal_text n
-answer_text (Some (call.Drop address)) n = refusal_text n
-answer_text other n = []
+abbrev pub call_answer_text : Option Call → ℕ → List ℕ
+call_answer_text (Some (call.Give address receiver to mode)) n = refusal_text n
+call_answer_text (Some (call.Take process address)) n = refusal_text n
+call_answer_text (Some (call.Drop address)) n = refusal_text n
+call_answer_text other n = []

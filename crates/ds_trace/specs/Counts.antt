@@ -52,23 +52,23 @@ abbrev pub plus : ℕ → ℕ → ℕ
 plus count more = min (count + more) (2 ^ 64 - 1)
 
 -- the number of a call, and 10 for all others
-abbrev pub number_of : Call → ℕ
-number_of call.Exit = 0
-number_of (call.Put byte) = 1
-number_of call.Get = 2
-number_of call.Yield = 3
-number_of call.Time = 4
-number_of call.Own = 5
-number_of (call.Give address receiver to mode) = 6
-number_of (call.Take process address) = 7
-number_of (call.Drop address) = 8
-number_of call.Wait = 9
-number_of call.Unknown = 10
+abbrev pub call_number : Call → ℕ
+call_number call.Exit = 0
+call_number (call.Put byte) = 1
+call_number call.Get = 2
+call_number call.Yield = 3
+call_number call.Time = 4
+call_number call.Own = 5
+call_number (call.Give address receiver to mode) = 6
+call_number (call.Take process address) = 7
+call_number (call.Drop address) = 8
+call_number call.Wait = 9
+call_number call.Unknown = 10
 
 -- with the call of a unit, if it is one
 abbrev pub with_call : List ℕ → Option Call → List ℕ
 with_call calls None = calls
-with_call calls (Some c) = slice_set calls (number_of c) (plus (slice_index calls (number_of c)) 1)
+with_call calls (Some c) = slice_set calls (call_number c) (plus (slice_index calls (call_number c)) 1)
 
 -- whether a unit was a give by copy that was done, by its answer
 abbrev pub is_copy : Option Call → ℕ → Bool
@@ -119,5 +119,5 @@ abbrev pub is_counted : View → ℕ → Bool
 is_counted v began = has_lines v && shows_turn v began
 
 -- the counts after a half turn, by what was before it and what is found after it
-abbrev pub counts_after : View → Counted → Looked → Found → Counted
-counts_after v k b f = if is_counted v b.began then switch_counted (done_counted k b f b.start) b.runner f.runner else k
+abbrev pub counted_after : View → Counted → Looked → Found → Counted
+counted_after v k b f = if is_counted v b.began then switch_counted (done_counted k b f b.start) b.runner f.runner else k

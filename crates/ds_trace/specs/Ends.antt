@@ -15,13 +15,13 @@ use Rattle.ds_trace.specs.Logs.{last_of, lines_of}
 use Rattle.ds_trace.specs.Summaries.{summary_text}
 
 -- a register of a process at the end: none that a touch may change, and none that holds 0
-abbrev pub left_text : RegisterNames → ℕ → ℕ → List ℕ
-left_text names n value = if is_hidden n || (value == 0) then [] else codes "  " ++ register_as names n ++ codes "=" ++ hex8 value
+abbrev pub register_left_text : RegisterNames → ℕ → ℕ → List ℕ
+register_left_text names n value = if is_hidden n || (value == 0) then [] else codes "  " ++ register_as names n ++ codes "=" ++ hex8 value
 
 -- the registers of a list, the first of which has this number
 abbrev pub registers_text : RegisterNames → ℕ → List ℕ → List ℕ
 registers_text names n [] = []
-registers_text names n (value ∷ rest) = left_text names n value ++ registers_text names (n + 1) rest
+registers_text names n (value ∷ rest) = register_left_text names n value ++ registers_text names (n + 1) rest
 
 -- a line of the log, where there is one
 abbrev pub line_by : Option (List ℕ) → List ℕ

@@ -8,7 +8,7 @@ use Rattle.ds_policy.specs.declared.grant.Right.TheVariants.{Nothing, Read, Writ
 use Rattle.ds_policy.specs.Pages.{Table, entries_of, found}
 use Rattle.ds_words.specs.declared.view.View.{View}
 use Rattle.ds_words.specs.Views.{shows_process}
-use Rattle.ds_trace.specs.Boundaries.{place_text}
+use Rattle.ds_trace.specs.Boundaries.{entry_place_text}
 use Rattle.ds_trace.specs.Changes.{same_first}
 
 -- what may be done
@@ -39,7 +39,7 @@ giver_text p = if p == 0 then [] else codes " giver " ++ decimal p
 -- the entry that it was shared from
 abbrev pub parent_text : Option EntryPlace → List ℕ
 parent_text None = []
-parent_text (Some place) = codes " parent" ++ place_text place.process place.address
+parent_text (Some place) = codes " parent" ++ entry_place_text place.process place.address
 
 -- all that is granted
 abbrev pub grant_text : Grant → List ℕ
@@ -49,7 +49,7 @@ grant_text g =
 
 -- the line of an entry of a process from a time on, with these words
 abbrev pub entry_line : ℕ → ℕ → ℕ → List ℕ → List ℕ
-entry_line time p address words = decimal time ++ codes " entry" ++ place_text p address ++ words ++ codes "\n"
+entry_line time p address words = decimal time ++ codes " entry" ++ entry_place_text p address ++ words ++ codes "\n"
 
 -- What is granted alike.
 

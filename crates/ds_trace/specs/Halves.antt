@@ -13,7 +13,7 @@ use Rattle.ds_trace.specs.Lines.{unit_told}
 use Rattle.ds_trace.specs.Boundaries.{due_by, boundary_text}
 use Rattle.ds_trace.specs.Changes.{changes_text}
 use Rattle.ds_trace.specs.Entries.{tables_text}
-use Rattle.ds_trace.specs.Counts.{Counted, counts_after, is_unbegun}
+use Rattle.ds_trace.specs.Counts.{Counted, counted_after, is_unbegun}
 
 -- the text of a state's log
 abbrev pub log_of : State → List ℕ
@@ -57,18 +57,18 @@ found_of p t = record {
 }
 
 -- the process whose unit is next, if one is
-abbrev pub process_in : Option Start → ℕ
-process_in None = 0
-process_in (Some s) = s.process
+abbrev pub process_of_start : Option Start → ℕ
+process_of_start None = 0
+process_of_start (Some s) = s.process
 
 -- the lines of the entries that were changed
-abbrev pub entries_text : View → Looked → Found → List ℕ
-entries_text v b f = if shows_entries v then tables_text v f.time b.table f.memory.table else []
+abbrev pub changed_entries_text : View → Looked → Found → List ℕ
+changed_entries_text v b f = if shows_entries v then tables_text v f.time b.table f.memory.table else []
 
 -- what was done: a unit, or a boundary, which leaves none owed; a tick in which nobody runs changes nothing that is told
 abbrev pub done_text : View → Looked → Found → Option Start → List ℕ
-done_text v b f None = if f.owed then [] else boundary_text v b f ++ entries_text v b f
-done_text v b f (Some s) = unit_told v s (drop b.logged f.log) f ++ entries_text v b f
+done_text v b f None = if f.owed then [] else boundary_text v b f ++ changed_entries_text v b f
+done_text v b f (Some s) = unit_told v s (drop b.logged f.log) f ++ changed_entries_text v b f
 
 -- before the first half turn that is counted, the lines of all entries: what has changed from a table that has none
 abbrev pub opening_text : View → Counted → Looked → List ℕ
@@ -80,8 +80,8 @@ half_after v k b f = if shows_turn v b.began then opening_text v k b ++ done_tex
 
 -- the lines of the half turn that leads from a state, with these counts, to another
 abbrev pub half_text : View → Counted → State → State → List ℕ
-half_text v k m t = half_after v k (looked_of v m) (found_of (process_in (next_start m)) t)
+half_text v k m t = half_after v k (looked_of v m) (found_of (process_of_start (next_start m)) t)
 
 -- the counts after it
 abbrev pub half_counts : View → Counted → State → State → Counted
-half_counts v k m t = counts_after v k (looked_of v m) (found_of (process_in (next_start m)) t)
+half_counts v k m t = counted_after v k (looked_of v m) (found_of (process_of_start (next_start m)) t)

@@ -7,7 +7,6 @@ pub mod Lines
 pub mod Boundaries
 pub mod Changes
 pub mod Entries
-pub mod EntryRows
 pub mod Counts
 pub mod Losses
 pub mod Halves
@@ -16,12 +15,10 @@ pub mod Summaries
 pub mod Ends
 pub mod Processors
 pub mod Traces
-pub mod Shows
-pub mod Handed
-pub mod Advanced
-pub mod Counted
 pub mod Memory
 pub mod Accounts
 pub mod Summed
 pub mod MustEnd
 pub mod Sources
+pub mod Inner
+pub mod Rows

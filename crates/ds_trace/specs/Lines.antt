@@ -5,14 +5,14 @@ use Rattle.ds_isa.specs.Uses.{uses}
 use Rattle.ds_isa.specs.Instruction.{instruction_of}
 use Rattle.ds_listing.specs.declared.names.RegisterNames.{RegisterNames}
 use Rattle.ds_listing.specs.NamedTexts.{register_as, text_as}
-use Rattle.ds_listing.specs.Pages.{place_at, plain_pages}
+use Rattle.ds_listing.specs.Pages.{place_of_address, plain_pages}
 use Rattle.ds_text.specs.Digits.{hex8}
 use Rattle.ds_words.specs.declared.view.View.{View}
 use Rattle.ds_words.specs.Views.{shows_denials, shows_unit}
 use Rattle.ds_trace.specs.declared.lines.Told.{Told}
 use Rattle.ds_trace.specs.declared.start.Start.{Start}
 use Rattle.ds_trace.specs.Starts.{is_call}
-use Rattle.ds_trace.specs.Calls.{call_told, answer_text}
+use Rattle.ds_trace.specs.Calls.{call_told, call_answer_text}
 use Rattle.ds_trace.specs.Stores.{is_lost, reach_of, stored_at, stored_text}
 use Rattle.ds_trace.specs.Looks.{Found}
 
@@ -31,8 +31,8 @@ before_blanks [] = []
 before_blanks (first ∷ rest) = (first ∷ rest) ++ codes "  "
 
 -- the register that the line of an instruction shows: of a call register 2
-unfoldable pub register_of : ℕ → Option ℕ
-register_of w = shown (if is_call (instruction_of w) then Some 2 else (uses (instruction_of w)).writes)
+unfoldable pub shown_register : ℕ → Option ℕ
+shown_register w = shown (if is_call (instruction_of w) then Some 2 else (uses (instruction_of w)).writes)
 
 -- a register with what it holds
 abbrev pub register_text : RegisterNames → List ℕ → Option ℕ → List ℕ
@@ -51,22 +51,22 @@ loaded_text v t f = if v.source then stored_text f.memory (length f.standings) t
 abbrev pub result_text : View → Told → Found → List ℕ
 result_text v t f =
     if t.done then
-    register_text v.names f.general (register_of t.word)
+    register_text v.names f.general (shown_register t.word)
     ++ (stored_text f.memory (length f.standings) t.process (stored_at f.general (reach_of (instruction_of t.word))) ++ loaded_text v t f)
     else []
 
 -- an instruction, with the words of a call and its refusal
 abbrev pub instruction_text : View → Told → Found → List ℕ
 instruction_text v t f =
-    front_text v.names t ++ call_told v.source t.number t.call ++ result_text v t f ++ answer_text t.call (slice_index f.general 2) ++ codes "\n"
+    front_text v.names t ++ call_told v.source t.number t.call ++ result_text v t f ++ call_answer_text t.call (slice_index f.general 2) ++ codes "\n"
 
 -- where it stands in its source, where units are told by their sources
-abbrev pub source_text : View → Told → List ℕ
-source_text v t = if v.source then before_blanks (place_at (plain_pages v.pages.now) t.page t.address) else []
+abbrev pub source_place_text : View → Told → List ℕ
+source_place_text v t = if v.source then before_blanks (place_of_address (plain_pages v.pages.now) t.page t.address) else []
 
 -- the line of an instruction that was fetched
 abbrev pub told_line : View → Told → Found → List ℕ
-told_line v t f = source_text v t ++ instruction_text v t f
+told_line v t f = source_place_text v t ++ instruction_text v t f
 
 -- what is told of the first instruction of a unit, and of that in its slot
 abbrev pub first_told : Start → Bool → ℕ → Told
@@ -118,11 +118,11 @@ abbrev pub was_done : Start → List ℕ → Bool
 was_done s logged = is_none logged || is_some s.call
 
 -- what a unit logged
-abbrev pub denied_text : List ℕ → List ℕ
-denied_text logged = if is_none logged then [] else codes "denied " ++ logged
+abbrev pub logged_text : List ℕ → List ℕ
+logged_text logged = if is_none logged then [] else codes "denied " ++ logged
 
 -- the lines of a unit that logged this, as far as they are wanted
 abbrev pub unit_told : View → Start → List ℕ → Found → List ℕ
 unit_told v s logged f =
     (if shows_unit v s.process (is_some s.call) then unit_text v s (was_done s logged) f else [])
-    ++ (if shows_denials v s.process then denied_text logged else [])
+    ++ (if shows_denials v s.process then logged_text logged else [])

@@ -38,13 +38,13 @@ abbrev pub last_of : ℕ → List (List ℕ) → Option (List ℕ)
 last_of p lines = last_or None (decimal p) lines
 
 -- a rule before others, where there is one
-abbrev pub with_rule : List ℕ → List (List ℕ) → List (List ℕ)
-with_rule rule rest = if length rule == 0 then rest else rule ∷ rest
+abbrev pub rule_before : List ℕ → List (List ℕ) → List (List ℕ)
+rule_before rule rest = if length rule == 0 then rest else rule ∷ rest
 
 -- the rules of denials, one for each line
-abbrev pub rules_of : List (List ℕ) → List (List ℕ)
-rules_of [] = []
-rules_of (line ∷ rest) = with_rule (sixth_word line) (rules_of rest)
+abbrev pub denied_rules : List (List ℕ) → List (List ℕ)
+denied_rules [] = []
+denied_rules (line ∷ rest) = rule_before (sixth_word line) (denied_rules rest)
 
 -- how often a rule is among some
 abbrev pub times_among : List ℕ → List (List ℕ) → ℕ
@@ -56,11 +56,11 @@ abbrev pub is_among : List ℕ → List (List ℕ) → Bool
 is_among rule rules = list_any (λ r. bytes_eq r rule) rules
 
 -- the line of a rule that was not met before, with how often it is met
-abbrev pub rule_text : List (List ℕ) → List ℕ → List (List ℕ) → List ℕ
-rule_text before rule rest =
+abbrev pub rule_count_text : List (List ℕ) → List ℕ → List (List ℕ) → List ℕ
+rule_count_text before rule rest =
     if is_among rule before then [] else codes "denied " ++ rule ++ codes " " ++ decimal (suc (times_among rule rest)) ++ codes "\n"
 
 -- those of rules, each at its first place
 abbrev pub rules_text : List (List ℕ) → List (List ℕ) → List ℕ
 rules_text before [] = []
-rules_text before (rule ∷ rest) = rule_text before rule rest ++ rules_text (before ++ rule ∷ []) rest
+rules_text before (rule ∷ rest) = rule_count_text before rule rest ++ rules_text (before ++ rule ∷ []) rest

@@ -6,7 +6,7 @@ use Rattle.ds_procs.specs.declared.process.Standing.TheVariants.{Ready, Waiting,
 use Rattle.ds_refinement.specs.Held.{Held}
 use Rattle.ds_station.specs.Reads.{address_held}
 use Rattle.ds_station.specs.declared.outcome.Unended.{Unended}
-use Rattle.ds_trace.specs.Accounts.{why_text}
+use Rattle.ds_trace.specs.Accounts.{why_parked_text}
 use Rattle.ds_trace.specs.Logs.{lines_of}
 
 -- how it stands, before the address
@@ -31,7 +31,7 @@ where_text standing pc = unended_words standing ++ hex8 pc
 
 -- the line of a process by these lines of the log: its number, how it stands and where, and why
 abbrev pub unended_text : List (List ℕ) → ℕ → Standing → ℕ → List ℕ
-unended_text lines p standing pc = (which_text p ++ where_text standing pc) ++ ticks_words standing ++ why_text lines p standing ++ codes "\n"
+unended_text lines p standing pc = (which_text p ++ where_text standing pc) ++ ticks_words standing ++ why_parked_text lines p standing ++ codes "\n"
 
 -- by what a station holds
 abbrev pub unended_line : Held → Unended → List ℕ

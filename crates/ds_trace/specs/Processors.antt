@@ -38,10 +38,6 @@ abbrev pub processor_along : List Held → ProcessorCounts
 processor_along [] = none_processed
 processor_along (last ∷ before) = processor_after (processor_along before) last
 
--- all that is counted
-abbrev pub total : ProcessorCounts → ℕ
-total c = c.instructions + c.refills + c.double_misses + c.services
-
 -- Texts.
 
 -- a count after its name
@@ -55,27 +51,27 @@ processor_line c =
     ++ named_text (codes " double ") c.double_misses ++ named_text (codes " services ") c.services ++ codes ", as Random fell\n"
 
 -- what may be done with a page, by the dirty bit
-abbrev pub right_text : Bool → List ℕ
-right_text dirty = if dirty then codes "write" else codes "read"
+abbrev pub dirty_text : Bool → List ℕ
+dirty_text dirty = if dirty then codes "write" else codes "read"
 
 -- the line of an entry: its slot, the page's address, the address space's number, the frame's address, and what may be done
-abbrev pub entry_line : ℕ → Entry → List ℕ
-entry_line slot e =
+abbrev pub buffer_entry_line : ℕ → Entry → List ℕ
+buffer_entry_line slot e =
     codes "entry " ++ decimal slot ++ codes " " ++ hex8 (e.vpn % 2 ^ 20 * 2 ^ 12) ++ codes " " ++ decimal e.asid
-    ++ codes " " ++ hex8 (e.pfn % 2 ^ 20 * 2 ^ 12) ++ codes " " ++ right_text e.d ++ codes "\n"
+    ++ codes " " ++ hex8 (e.pfn % 2 ^ 20 * 2 ^ 12) ++ codes " " ++ dirty_text e.d ++ codes "\n"
 
 -- an entry that is not valid has no line
-abbrev pub entry_text : ℕ → Entry → List ℕ
-entry_text slot e = if e.v then entry_line slot e else []
+abbrev pub valid_entry_text : ℕ → Entry → List ℕ
+valid_entry_text slot e = if e.v then buffer_entry_line slot e else []
 
 -- the lines of entries, of which the first is in this slot
-abbrev pub entries_text : ℕ → List Entry → List ℕ
-entries_text slot [] = []
-entries_text slot (e ∷ rest) = entry_text slot e ++ entries_text (slot + 1) rest
+abbrev pub buffer_lines_text : ℕ → List Entry → List ℕ
+buffer_lines_text slot [] = []
+buffer_lines_text slot (e ∷ rest) = valid_entry_text slot e ++ buffer_lines_text (slot + 1) rest
 
 -- what the processor did, and what its buffer holds
 abbrev pub processor_text : ProcessorCounts → List Entry → List ℕ
-processor_text c entries = processor_line c ++ entries_text 0 entries
+processor_text c entries = processor_line c ++ buffer_lines_text 0 entries
 
 -- Where a window ends.
 
@@ -84,13 +80,13 @@ abbrev pub window_end : View → Option ℕ
 window_end v = if v.processor && has_lines v then v.to else None
 
 -- a boundary is owed, or the time is before the end of a window, where there is one
-abbrev pub is_within : Option ℕ → Held → Bool
-is_within end h = is_some h.kept.state.owed || is_before end h.kept.state.time
+abbrev pub is_in_window : Option ℕ → Held → Bool
+is_in_window end h = is_some h.kept.state.owed || is_before end h.kept.state.time
 
 -- the station at which a run left the window before, or else this one, if it is no longer within the window
 abbrev pub left_by : Option ℕ → Option Held → Held → Option Held
 left_by end (Some before) h = Some before
-left_by end None h = if is_within end h then None else Some h
+left_by end None h = if is_in_window end h then None else Some h
 
 -- of these stations, the newest first, the first that is no longer within the window
 abbrev pub left_along : Option ℕ → List Held → Option Held
@@ -98,13 +94,13 @@ left_along end [] = None
 left_along end (last ∷ before) = left_by end (left_along end before) last
 
 -- the time at which a run left the window, and the lines of what the buffer holds there
-abbrev pub left_text : Held → List ℕ
-left_text h = codes "entries at " ++ decimal h.kept.state.time ++ codes ", as Random fell\n" ++ entries_text 0 h.core.entries
+abbrev pub window_left_text : Held → List ℕ
+window_left_text h = codes "entries at " ++ decimal h.kept.state.time ++ codes ", as Random fell\n" ++ buffer_lines_text 0 h.core.entries
 
 -- nothing, where it did not
 abbrev pub window_text : Option Held → List ℕ
 window_text None = []
-window_text (Some h) = left_text h
+window_text (Some h) = window_left_text h
 
 -- where it did, a run for n from this state came there, and no instruction of a unit is counted there: it is between two turns
 abbrev pub IsPassed : ℕ → State → Option Held → Type 0

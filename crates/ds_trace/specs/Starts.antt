@@ -31,8 +31,8 @@ call_at general None = None
 call_at general (Some w) = if is_call (instruction_of w) then Some (call_of general) else None
 
 -- the page that the entry of a process at an address names, if it names one
-abbrev pub page_at : PageState → ℕ → ℕ → Option ℕ
-page_at s p address = option_and_then (λ g. g.page) (entry_at s.table p (page_address address))
+abbrev pub page_named_at : PageState → ℕ → ℕ → Option ℕ
+page_named_at s p address = option_and_then (λ g. g.page) (entry_at s.table p (page_address address))
 
 -- the unit of a process at an address, at a time, with these registers
 abbrev pub start_at : PageState → List ℕ → ℕ → ℕ → ℕ → Start
@@ -44,8 +44,8 @@ start_at s general time p pc = record {
   slot = slot_of s p pc (fetched s p pc);
   call = call_at general (fetched s p pc);
   number = slice_index general 2;
-  page = page_at s p pc;
-  slot_page = page_at s p (word (pc + 4));
+  page = page_named_at s p pc;
+  slot_page = page_named_at s p (word (pc + 4));
   loaded = loaded_at general (fetched s p pc);
   slot_loaded = slot_loaded_at general (fetched s p pc) (slot_of s p pc (fetched s p pc));
 }

@@ -28,9 +28,9 @@ stored_at general (Some r) =
     if is_lost r.base then None else Some (word (slice_index general r.base + sign_extended 16 r.offset) / 4 * 4)
 
 -- a word with its address
-abbrev pub word_text : ℕ → Option ℕ → List ℕ
-word_text address None = []
-word_text address (Some w) = codes "  " ++ hex8 address ++ codes "=" ++ hex8 w
+abbrev pub stored_word_text : ℕ → Option ℕ → List ℕ
+stored_word_text address None = []
+stored_word_text address (Some w) = codes "  " ++ hex8 address ++ codes "=" ++ hex8 w
 
 -- the word at an address, where there is such a process among so many, and it may fetch it
 abbrev pub word_seen : PageState → ℕ → ℕ → ℕ → Option ℕ
@@ -39,4 +39,4 @@ word_seen s count p address = if (p == 0) || nat_lt count p then None else fetch
 -- that at the address of a store
 abbrev pub stored_text : PageState → ℕ → ℕ → Option ℕ → List ℕ
 stored_text s count p None = []
-stored_text s count p (Some address) = word_text address (word_seen s count p address)
+stored_text s count p (Some address) = stored_word_text address (word_seen s count p address)

@@ -3,7 +3,7 @@ use Rattle.std.specs.Prelude.{codes, decimal, ℕ, ◌+◌, ◌==◌, if◌then�
 use Rattle.ds_words.specs.declared.view.View.{View}
 use Rattle.ds_words.specs.Views.{has_lines}
 use Rattle.ds_trace.specs.Counts.{Counted}
-use Rattle.ds_trace.specs.Logs.{lines_of, rules_of, rules_text}
+use Rattle.ds_trace.specs.Logs.{lines_of, denied_rules, rules_text}
 
 -- the name of a call by its number
 abbrev pub call_name : ℕ → List ℕ
@@ -33,21 +33,21 @@ abbrev pub halves_text : ℕ → Counted → List ℕ
 halves_text from k = codes "from " ++ decimal from ++ codes " units " ++ decimal k.units ++ codes " idle " ++ decimal k.idle ++ codes " switches " ++ decimal k.switches
 
 -- how many calls, denials, gives by copy and lost characters there were
-abbrev pub events_text : Counted → ℕ → List ℕ
-events_text k denials = codes " calls " ++ decimal k.made ++ codes " denials " ++ decimal denials ++ codes " copies " ++ decimal k.copies ++ codes " lost " ++ decimal k.lost
+abbrev pub event_counts_text : Counted → ℕ → List ℕ
+event_counts_text k denials = codes " calls " ++ decimal k.made ++ codes " denials " ++ decimal denials ++ codes " copies " ++ decimal k.copies ++ codes " lost " ++ decimal k.lost
 
 -- the line of all counts, with this number of denials
 abbrev pub totals_text : ℕ → Counted → ℕ → List ℕ
-totals_text from k denials = halves_text from k ++ events_text k denials ++ codes "\n"
+totals_text from k denials = halves_text from k ++ event_counts_text k denials ++ codes "\n"
 
 -- the counts of the turns from a time on: all of them, each call, and what was denied by each of these rules
 abbrev pub counts_text : ℕ → Counted → List (List ℕ) → List ℕ
 counts_text from k rules = totals_text from k (length rules) ++ calls_text 0 k.calls ++ rules_text [] rules
 
 -- where the end alone is told, the time, and what was denied by each of these rules
-abbrev pub time_text : ℕ → List (List ℕ) → List ℕ
-time_text time rules = codes "time " ++ decimal time ++ codes "\n" ++ rules_text [] rules
+abbrev pub end_time_text : ℕ → List (List ℕ) → List ℕ
+end_time_text time rules = codes "time " ++ decimal time ++ codes "\n" ++ rules_text [] rules
 
 -- what is told of the whole run, by its counts, its last time, and the lines of its log
 abbrev pub summary_text : View → Counted → ℕ → List (List ℕ) → List ℕ
-summary_text v k time lines = if has_lines v then counts_text v.from k (rules_of (lines_of k.denied)) else time_text time (rules_of lines)
+summary_text v k time lines = if has_lines v then counts_text v.from k (denied_rules (lines_of k.denied)) else end_time_text time (denied_rules lines)

@@ -5,7 +5,7 @@ use Rattle.ds_log.specs.Sent.{AppendsPart}
 use Rattle.ds_pagemap.specs.Machine.{State}
 use Rattle.ds_pagemap.specs.First.{first_state}
 use Rattle.ds_pagemap.specs.Run.{half_turn, goes_on, after, Reaches, Ends, IsPrefix}
-use Rattle.ds_pagemap.specs.Text.{text_of}
+use Rattle.ds_pagemap.specs.Text.{state_text}
 use Rattle.ds_pagemap.specs.Inputs.{Refusal}
 use Rattle.ds_refinement.specs.Held.{Held}
 use Rattle.ds_refinement.specs.Stands.{Stands}
@@ -48,12 +48,7 @@ pub record WritesTold (v : View) (old new : Option (List ℕ)) (n : ℕ) (first 
   pub processed : Tells last processor
   pub between : Option (List ℕ)
   pub trace : Appends old between (told_to v n first last ends.reached processor)
-  pub written : Appends between new (text_of last)
-
--- The same, and these are the counts of its way.
-pub record WritesToldBy (v : View) (old new : Option (List ℕ)) (n : ℕ) (first : State) (Tells : State → List ℕ → Type 0) (k : Counted) : Type 0 where
-  pub told : WritesTold v old new n first Tells
-  pub counts : k ≡ counts_along v n told.ends.reached.choices first
+  pub written : Appends between new (state_text last)
 
 -- A prefix of both is written, of a run that has come somewhere.
 pub record WritesToldPart (v : View) (old new : Option (List ℕ)) (n : ℕ) (first : State) (Tells : State → List ℕ → Type 0) : Type 0 where
@@ -61,7 +56,7 @@ pub record WritesToldPart (v : View) (old new : Option (List ℕ)) (n : ℕ) (fi
   pub reached : Reaches n first last
   pub processor : List ℕ
   pub processed : Tells last processor
-  pub written : AppendsPart old new (told_to v n first last reached processor ++ text_of last)
+  pub written : AppendsPart old new (told_to v n first last reached processor ++ state_text last)
 
 -- A run was cut short between two turns, where a turn was still to come: its trace so far is written, and then its text so far.
 pub record WritesToldSoFar (v : View) (old new : Option (List ℕ)) (n : ℕ) (first : State) (Tells : State → List ℕ → Type 0) : Type 0 where
@@ -72,7 +67,7 @@ pub record WritesToldSoFar (v : View) (old new : Option (List ℕ)) (n : ℕ) (f
   pub processed : Tells last processor
   pub between : Option (List ℕ)
   pub trace : Appends old between (told_to v n first last prefix.reached processor)
-  pub written : Appends between new (text_of last)
+  pub written : Appends between new (state_text last)
 
 -- A prefix of the lines of a run that has come somewhere is written, and of what comes after the lines nothing.
 pub record WritesLines (v : View) (old new : Option (List ℕ)) (n : ℕ) (first : State) (Tells : State → List ℕ → Type 0) : Type 0 where

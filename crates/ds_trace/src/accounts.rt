@@ -1,10 +1,10 @@
 //! An account of a run in plain words, by the station and its log at the end.
 ghost use Rattle.std.specs.Prelude.{◌≡◌, ◌++◌, IfOk, OnOk, codes, decimal, length, map, option_map};
 ghost use Rattle.std.specs.String.{string_bytes};
-ghost use Rattle.ds_trace.specs.Accounts.{account_text, all_stand, came_text, came_words, denied_words, letter_words, number_words, rule_words, stands_text, why_by, why_text};
+ghost use Rattle.ds_trace.specs.Accounts.{account_text, all_stand, came_text, came_words, denied_words, letter_words, number_words, rule_words, stands_text, why_by, why_parked_text};
 
 use crate::ends::push_head;
-use crate::logs::{fourth_word, last_of, lines_of, push_rules, rules_of, sixth_word};
+use crate::logs::{denied_rules, fourth_word, last_of, lines_of, push_rules, sixth_word};
 use ds_procs::Standing;
 use ds_station::{Station, Unended};
 use ds_text::string::push_decimal;
@@ -84,7 +84,7 @@ pub(crate) fn push_parked_why(
     standing: Standing,
 ) -> Result<(), AllocError>
     ensures { OnOk result (text.new.items ≡ text.old.items
-        ++ why_text (map (λ l. l.now) lines.now) process standing) }
+        ++ why_parked_text (map (λ l. l.now) lines.now) process standing) }
 {
     match standing {
         Standing::Parked => push_why(text, last_of(lines, process)),
@@ -191,7 +191,7 @@ pub fn account<L: Lookaside>(
     ensures { IfOk result (λ text. text.items ≡ account_text n station.now.held) }
 {
     let lines = lines_of(alloc, station.log())?;
-    let rules = rules_of(alloc, lines.as_slice())?;
+    let rules = denied_rules(alloc, lines.as_slice())?;
     let mut text = Vec::new(alloc);
     let mut line = String::new(alloc);
     push_end_of_run(&mut text, &mut line, lines.as_slice(), station, n)?;

@@ -2,7 +2,7 @@
 ghost use Rattle.std.specs.Prelude.{◌≡◌, ◌+◌, ◌++◌, OnOk, if◌then◌else◌, length, map, nat_le};
 ghost use Rattle.ds_pagemap.specs.Machine.{first};
 ghost use Rattle.ds_trace.specs.Boundaries.{due_by};
-ghost use Rattle.ds_trace.specs.Shows.{looked_held, start_held};
+ghost use Rattle.ds_trace.specs.Inner.Shows.{looked_held, start_held};
 
 use crate::entries::{Row, push_rows};
 use crate::start::Start;

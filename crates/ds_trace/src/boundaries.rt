@@ -2,7 +2,7 @@
 ghost use Rattle.std.specs.Prelude.{◌≡◌, ◌+◌, ◌-◌, ◌++◌, OnOk, drop, length};
 ghost use Rattle.std.specs.String.{string_bytes};
 ghost use Rattle.ds_policy.specs.Words.{after_blank, command_words};
-ghost use Rattle.ds_trace.specs.Boundaries.{command_line, commands_text, count_keys, key_line, keys_text, line_text, lost_text, place_text, taken_by};
+ghost use Rattle.ds_trace.specs.Boundaries.{command_line, commands_text, count_keys, key_line, keys_text, characters_line_text, lost_text, entry_place_text, taken_by};
 
 use crate::before::LINES;
 use ds_policy::{Command, TimedCommand};
@@ -14,7 +14,7 @@ use std::alloc::AllocError;
 /// Adds a process and an address, each after a blank.
 pub(crate) fn push_place(line: &mut String, process: u32, address: u32) -> Result<(), AllocError>
     ensures { OnOk result
-        (string_bytes line.new ≡ string_bytes line.old ++ place_text process address) }
+        (string_bytes line.new ≡ string_bytes line.old ++ entry_place_text process address) }
 {
     line.push_str(" ")?;
     push_decimal(line, u64::from(process))?;
@@ -91,7 +91,7 @@ fn push_key(line: &mut String, time: u64, console: usize, byte: u8) -> Result<()
 /// Adds the lines of characters on a console line.
 fn push_line(line: &mut String, time: u64, console: usize, bytes: &[u8]) -> Result<(), AllocError>
     ensures { OnOk result
-        (string_bytes line.new ≡ string_bytes line.old ++ line_text time console bytes.now) }
+        (string_bytes line.new ≡ string_bytes line.old ++ characters_line_text time console bytes.now) }
 {
     for byte in bytes {
         push_key(line, time, console, *byte)?;

@@ -1,7 +1,7 @@
 //! The words of a call.
 ghost use Rattle.std.specs.Prelude.{◌≡◌, ◌++◌, OnOk};
 ghost use Rattle.std.specs.String.{string_bytes};
-ghost use Rattle.ds_trace.specs.Calls.{answer_text, call_text, call_told, is_unknown, mode_text, refusal_text, unknown_text, words_of_call};
+ghost use Rattle.ds_trace.specs.Calls.{call_answer_text, call_text, call_told, is_unknown, mode_text, refusal_text, unknown_text, words_of_call};
 
 use ds_procs::Call;
 use ds_text::string::{push_byte, push_decimal, push_hex};
@@ -151,8 +151,8 @@ fn refusal_text(number: u32) -> &'static str
 }
 
 /// The refusal of a call about grants, where its answer is one.
-fn answer_text(call: Option<Call>, answer: u32) -> &'static str
-    ensures { result.now ≡ answer_text call answer }
+fn call_answer_text(call: Option<Call>, answer: u32) -> &'static str
+    ensures { result.now ≡ call_answer_text call answer }
 {
     match call {
         Some(Call::Give { .. }) => refusal_text(answer),
@@ -169,7 +169,7 @@ pub(crate) fn push_answer(
     answer: u32,
 ) -> Result<(), AllocError>
     ensures { OnOk result
-        (string_bytes line.new ≡ string_bytes line.old ++ answer_text call answer) }
+        (string_bytes line.new ≡ string_bytes line.old ++ call_answer_text call answer) }
 {
-    line.push_str(answer_text(call, answer))
+    line.push_str(call_answer_text(call, answer))
 }

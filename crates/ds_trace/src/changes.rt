@@ -4,7 +4,7 @@ ghost use Rattle.std.specs.String.{string_bytes};
 ghost use Rattle.ds_pagemap.specs.Boundary.{is_first};
 ghost use Rattle.ds_pagemap.specs.Machine.{first};
 ghost use Rattle.ds_trace.specs.Changes.{is_ready, is_shown, runner_text, same_first, same_standing, standing_line, standing_text, standings_text, switch_text, way_text};
-ghost use Rattle.ds_trace.specs.Shows.{found_held};
+ghost use Rattle.ds_trace.specs.Inner.Shows.{found_held};
 ghost use Rattle.ds_words.specs.Views.{shows_process};
 
 use ds_procs::Standing;

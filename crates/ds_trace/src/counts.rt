@@ -1,9 +1,9 @@
 //! What is counted of a run.
 ghost use Rattle.std.specs.Prelude.{◌≡◌, ◌<◌, ◌++◌, OnOk, is_some, slice_index};
 ghost use Rattle.ds_station.specs.Reads.{general_held};
-ghost use Rattle.ds_trace.specs.Counts.{done_counted, is_copy, is_counted, is_unbegun, loss_of, lost_of, none_counted, number_of, plus, rest_counted, switch_counted, unit_counted, with_call};
-ghost use Rattle.ds_trace.specs.Halves.{process_in};
-ghost use Rattle.ds_trace.specs.Shows.{counts_held, found_held};
+ghost use Rattle.ds_trace.specs.Counts.{done_counted, is_copy, is_counted, is_unbegun, loss_of, lost_of, none_counted, call_number, plus, rest_counted, switch_counted, unit_counted, with_call};
+ghost use Rattle.ds_trace.specs.Halves.{process_of_start};
+ghost use Rattle.ds_trace.specs.Inner.Shows.{counts_held, found_held};
 
 use crate::before::{Before, LINES};
 use crate::boundaries::{lost_on, taken_from};
@@ -82,8 +82,8 @@ pub(crate) fn plus(count: u64, more: u64) -> u64
 }
 
 /// The number of a call, and 10 for all others.
-fn number_of(call: Call) -> usize
-    ensures number { result ≡ number_of call }
+fn call_number(call: Call) -> usize
+    ensures number { result ≡ call_number call }
     ensures few { result < 11 }
 {
     match call {
@@ -108,7 +108,7 @@ fn with_call(calls: [u64; CALLS], call: Option<Call>) -> [u64; CALLS]
     let mut calls = calls;
     match call {
         Some(call) => {
-            let number = number_of(call);
+            let number = call_number(call);
             calls[number] = plus(calls[number], 1);
             calls
         }
@@ -194,10 +194,10 @@ impl Counts {
         lost: usize,
     ) -> Result<(), AllocError>
         requires { lost ≡ lost_of before.now
-            (found_held (process_in before.now.start) station.now.held) }
+            (found_held (process_of_start before.now.start) station.now.held) }
         ensures { OnOk result (self.new ≡ record self.old {
           losses = self.old.losses
-              ++ loss_of before.now (found_held (process_in before.now.start) station.now.held);
+              ++ loss_of before.now (found_held (process_of_start before.now.start) station.now.held);
         }) }
     {
         if lost == 0 {
@@ -221,7 +221,7 @@ impl Counts {
     ) -> Result<(), AllocError>
         requires owed { owed ≡ is_some station.now.held.kept.state.owed }
         ensures { OnOk result (self.new ≡ rest_counted self.old before.now
-            (found_held (process_in before.now.start) station.now.held)) }
+            (found_held (process_of_start before.now.start) station.now.held)) }
     {
         if !before.owed {
             self.idle = plus(self.idle, 1);
@@ -243,7 +243,7 @@ impl Counts {
     ) -> Result<(), AllocError>
         requires owed { owed ≡ is_some station.now.held.kept.state.owed }
         ensures { OnOk result (self.new ≡ done_counted self.old before.now
-            (found_held (process_in before.now.start) station.now.held) before.now.start) }
+            (found_held (process_of_start before.now.start) station.now.held) before.now.start) }
     {
         match before.start {
             Some(start) => {

@@ -3,8 +3,8 @@ ghost use Rattle.std.specs.Prelude.{◌≡◌, ◌++◌, OnOk, codes, decimal, l
 ghost use Rattle.std.specs.String.{string_bytes};
 ghost use Rattle.ds_text.specs.Digits.{hex8};
 ghost use Rattle.ds_trace.specs.Changes.{standing_text};
-ghost use Rattle.ds_trace.specs.Ends.{left_text, line_by, parked_text, process_text, registers_text};
-ghost use Rattle.ds_trace.specs.Shows.{end_held, processes_held};
+ghost use Rattle.ds_trace.specs.Ends.{register_left_text, line_by, parked_text, process_text, registers_text};
+ghost use Rattle.ds_trace.specs.Inner.Shows.{end_held, processes_held};
 
 use crate::changes::push_standing;
 use crate::counts::Counts;
@@ -27,7 +27,7 @@ fn push_left(
     value: u32,
 ) -> Result<(), AllocError>
     ensures { OnOk result
-        (string_bytes line.new ≡ string_bytes line.old ++ left_text names register value) }
+        (string_bytes line.new ≡ string_bytes line.old ++ register_left_text names register value) }
 {
     if is_hidden(register) || value == 0 {
         return Ok(());

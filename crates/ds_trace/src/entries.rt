@@ -2,7 +2,7 @@
 ghost use Rattle.std.specs.Prelude.{◌≡◌, ◌++◌, [], OnOk, IfOk, codes, decimal};
 ghost use Rattle.std.specs.String.{string_bytes};
 ghost use Rattle.ds_policy.specs.Pages.{entries_of, found};
-ghost use Rattle.ds_trace.specs.Boundaries.{place_text};
+ghost use Rattle.ds_trace.specs.Boundaries.{entry_place_text};
 ghost use Rattle.ds_trace.specs.Entries.{changed_text, entry_line, give_text, giver_text, gone_line, gone_text, grant_text, is_still, new_line, new_text, page_text, parent_text, right_text, same_grant, same_leave, same_place, same_right, tables_text, until_text};
 
 use crate::boundaries::push_place;
@@ -168,7 +168,7 @@ fn push_grant(line: &mut String, grant: &Grant) -> Result<(), AllocError>
 /// Adds from when on an entry is told of, and where it stands.
 fn push_front(line: &mut String, time: u64, process: u32, address: u32) -> Result<(), AllocError>
     ensures { OnOk result (string_bytes line.new ≡ string_bytes line.old
-        ++ (decimal time ++ codes " entry" ++ place_text process address)) }
+        ++ (decimal time ++ codes " entry" ++ entry_place_text process address)) }
 {
     push_decimal(line, time)?;
     line.push_str(" entry")?;

@@ -3,8 +3,8 @@ ghost use Rattle.std.specs.Prelude.{◌≡◌, IfErr, IfOk, OnOk, Err};
 ghost use Rattle.ds_pagemap.specs.Inputs.{Refusal, inputs, inputs_by, inputs_under, inputs_under_by};
 ghost use Rattle.ds_log.specs.Sent.{IsAskedOnce};
 ghost use Rattle.ds_station.specs.Faults.{is_unwritten};
-ghost use Rattle.ds_station.specs.Headline.{Begins, IsRefused, loaded, sources_seen};
-ghost use Rattle.ds_trace.specs.Summed.{WritesTraceSummed};
+ghost use Rattle.ds_station.specs.Headline.{Begins, IsRefused, loaded_with, sources_seen};
+ghost use Rattle.ds_trace.specs.Inner.Summed.{WritesTraceSummed};
 ghost use Rattle.ds_trace.specs.Traces.{TraceEndsBy, TraceEndsReally, WritesTrace, WritesTraceBy, WritesTraceReally};
 
 use crate::summed::Summed;
@@ -36,13 +36,13 @@ pub fn trace_files<O: Output>(
         (inputs policy.now (sources_seen sources.now) input.now n random)
         (WritesTrace view.now (O.contents out.old) (O.contents out.new) n)) }
     ensures real { OnOk result (Begins
-        (inputs_by loaded policy.now (sources_seen sources.now) input.now n random)
+        (inputs_by loaded_with policy.now (sources_seen sources.now) input.now n random)
         (WritesTraceReally view.now (O.contents out.old) (O.contents out.new) n random)) }
     ensures err { IfErr result (λ f. TraceEndsBy f view.now
         (inputs policy.now (sources_seen sources.now) input.now n random)
         (O.contents out.old) (O.contents out.new) n) }
     ensures cut { IfErr result (λ f. TraceEndsReally f view.now
-        (inputs_by loaded policy.now (sources_seen sources.now) input.now n random)
+        (inputs_by loaded_with policy.now (sources_seen sources.now) input.now n random)
         (O.contents out.old) (O.contents out.new) n random) }
     ensures refused { (refusal : Refusal)
         → inputs policy.now (sources_seen sources.now) input.now n random ≡ Err refusal
@@ -71,13 +71,13 @@ pub fn trace_policy<O: Output>(
         (inputs_under policy.now (sources_seen sources.now) input.now n random)
         (WritesTrace view.now (O.contents out.old) (O.contents out.new) n)) }
     ensures real { OnOk result (Begins
-        (inputs_under_by loaded policy.now (sources_seen sources.now) input.now n random)
+        (inputs_under_by loaded_with policy.now (sources_seen sources.now) input.now n random)
         (WritesTraceReally view.now (O.contents out.old) (O.contents out.new) n random)) }
     ensures err { IfErr result (λ f. TraceEndsBy f view.now
         (inputs_under policy.now (sources_seen sources.now) input.now n random)
         (O.contents out.old) (O.contents out.new) n) }
     ensures cut { IfErr result (λ f. TraceEndsReally f view.now
-        (inputs_under_by loaded policy.now (sources_seen sources.now) input.now n random)
+        (inputs_under_by loaded_with policy.now (sources_seen sources.now) input.now n random)
         (O.contents out.old) (O.contents out.new) n random) }
     ensures refused { (refusal : Refusal)
         → inputs_under policy.now (sources_seen sources.now) input.now n random ≡ Err refusal
@@ -106,13 +106,13 @@ pub fn trace_station<O: Output>(
         (inputs_under policy.now (sources_seen sources.now) input.now n random)
         (WritesTraceBy view.now s.held (O.contents out.old) (O.contents out.new) n)) }
     ensures real { OnOk result (Begins
-        (inputs_under_by loaded policy.now (sources_seen sources.now) input.now n random)
+        (inputs_under_by loaded_with policy.now (sources_seen sources.now) input.now n random)
         (WritesTraceReally view.now (O.contents out.old) (O.contents out.new) n random)) }
     ensures err { IfErr result (λ f. TraceEndsBy f view.now
         (inputs_under policy.now (sources_seen sources.now) input.now n random)
         (O.contents out.old) (O.contents out.new) n) }
     ensures cut { IfErr result (λ f. TraceEndsReally f view.now
-        (inputs_under_by loaded policy.now (sources_seen sources.now) input.now n random)
+        (inputs_under_by loaded_with policy.now (sources_seen sources.now) input.now n random)
         (O.contents out.old) (O.contents out.new) n random) }
     ensures refused { (refusal : Refusal)
         → inputs_under policy.now (sources_seen sources.now) input.now n random ≡ Err refusal
@@ -147,13 +147,13 @@ pub fn trace_summed<O: Output>(
         (WritesTraceSummed view.now s.text.items s.station.held (O.contents out.old)
         (O.contents out.new) n)) }
     ensures real { OnOk result (Begins
-        (inputs_under_by loaded policy.now (sources_seen sources.now) input.now n random)
+        (inputs_under_by loaded_with policy.now (sources_seen sources.now) input.now n random)
         (WritesTraceReally view.now (O.contents out.old) (O.contents out.new) n random)) }
     ensures err { IfErr result (λ f. TraceEndsBy f view.now
         (inputs_under policy.now (sources_seen sources.now) input.now n random)
         (O.contents out.old) (O.contents out.new) n) }
     ensures cut { IfErr result (λ f. TraceEndsReally f view.now
-        (inputs_under_by loaded policy.now (sources_seen sources.now) input.now n random)
+        (inputs_under_by loaded_with policy.now (sources_seen sources.now) input.now n random)
         (O.contents out.old) (O.contents out.new) n random) }
     ensures refused { (refusal : Refusal)
         → inputs_under policy.now (sources_seen sources.now) input.now n random ≡ Err refusal

@@ -2,10 +2,10 @@
 ghost use Rattle.std.specs.Prelude.{◌≡◌, ◌++◌, ◌==◌, OnOk, codes, if◌then◌else◌, [], length};
 ghost use Rattle.std.specs.String.{string_bytes};
 ghost use Rattle.ds_isa.specs.Instruction.{instruction_of};
-ghost use Rattle.ds_listing.specs.Pages.{place_at, plain_pages};
-ghost use Rattle.ds_trace.specs.Lines.{before_blanks, first_line, front_text, instruction_text, is_hidden, is_none, loaded_text, register_of, register_text, result_text, shown, slot_line, source_text, told_line, unit_text, was_done};
+ghost use Rattle.ds_listing.specs.Pages.{place_of_address, plain_pages};
+ghost use Rattle.ds_trace.specs.Lines.{before_blanks, first_line, front_text, instruction_text, is_hidden, is_none, loaded_text, shown_register, register_text, result_text, shown, slot_line, source_place_text, told_line, unit_text, was_done};
 ghost use Rattle.ds_station.specs.Reads.{general_held, memory_held};
-ghost use Rattle.ds_trace.specs.Shows.{found_held};
+ghost use Rattle.ds_trace.specs.Inner.Shows.{found_held};
 ghost use Rattle.ds_trace.specs.Stores.{reach_of, stored_at, stored_text};
 
 use crate::calls::{push_answer, push_told_call};
@@ -45,9 +45,9 @@ fn shown(register: Option<u8>) -> Option<u8>
 }
 
 /// The register that the line of an instruction shows.
-#[tactic(auto, unfolding(crate::specs::Lines::register_of))]
-fn register_of(word: u32) -> Option<u8>
-    ensures { result ≡ register_of word }
+#[tactic(auto, unfolding(crate::specs::Lines::shown_register))]
+fn shown_register(word: u32) -> Option<u8>
+    ensures { result ≡ shown_register word }
 {
     let instr = decode(word);
     if is_call(&instr) {
@@ -137,13 +137,13 @@ fn push_effect<L: Lookaside>(
     general: &[u32; 32],
 ) -> Result<(), AllocError>
     ensures { OnOk result (string_bytes line.new ≡ string_bytes line.old
-        ++ (register_text view.now.names general.now (register_of told.word)
+        ++ (register_text view.now.names general.now (shown_register told.word)
         ++ (stored_text (memory_held station.now.held) (length station.now.held.kept.state.processes)
         told.process (stored_at general.now (reach_of (instruction_of told.word)))
         ++ (if view.now.source then stored_text (memory_held station.now.held)
         (length station.now.held.kept.state.processes) told.process told.loaded else [])))) }
 {
-    push_register(line, view.names, general, register_of(told.word))?;
+    push_register(line, view.names, general, shown_register(told.word))?;
     let address = stored_at(general, reach_of(&decode(told.word)));
     push_stored(line, station, told.process, address)?;
     push_loaded(line, view, station, told)
@@ -189,7 +189,7 @@ fn push_instruction<L: Lookaside>(
 /// Adds where an instruction stands in its source, with two blanks after it, where it stands in one.
 fn push_place(text: &mut Vec<u8>, view: &View<'_>, told: Told) -> Result<(), AllocError>
     ensures { OnOk result (text.new.items ≡ text.old.items
-        ++ before_blanks (place_at (plain_pages view.now.pages.now) told.page told.address)) }
+        ++ before_blanks (place_of_address (plain_pages view.now.pages.now) told.page told.address)) }
 {
     let start = text.len();
     push_address_place(text, view.pages, told.page, told.address)?;
@@ -202,7 +202,7 @@ fn push_place(text: &mut Vec<u8>, view: &View<'_>, told: Told) -> Result<(), All
 /// Adds where an instruction stands in its source, where units are told by their sources.
 fn push_source(text: &mut Vec<u8>, view: &View<'_>, told: Told) -> Result<(), AllocError>
     ensures { OnOk result
-        (text.new.items ≡ text.old.items ++ source_text view.now told) }
+        (text.new.items ≡ text.old.items ++ source_place_text view.now told) }
 {
     if view.source {
         push_place(text, view, told)

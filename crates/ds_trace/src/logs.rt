@@ -1,7 +1,7 @@
 //! What the lines of the log say of processes and rules.
 ghost use Rattle.std.specs.Prelude.{◌≡◌, ◌≤◌, ◌++◌, ◌∷◌, [], IfOk, OnOk, bytes_eq, codes, decimal, length, map, option_map, suc};
 ghost use Rattle.std.specs.List.{list_any};
-ghost use Rattle.ds_trace.specs.Logs.{after_word, first_word, fourth_word, is_among, last_of, lines_of, rule_text, rules_of, rules_text, second_word, sixth_word, times_among};
+ghost use Rattle.ds_trace.specs.Logs.{after_word, first_word, fourth_word, is_among, last_of, lines_of, rule_count_text, denied_rules, rules_text, second_word, sixth_word, times_among};
 
 use ds_text::sheet::push_decimal;
 use itoa::Buffer;
@@ -77,9 +77,12 @@ pub(crate) fn last_of<'a>(lines: &[&'a [u8]], process: u32) -> Option<&'a [u8]>
 }
 
 /// The rules of denials, one for each line.
-pub(crate) fn rules_of<'a>(alloc: Global, lines: &[&'a [u8]]) -> Result<Vec<&'a [u8]>, AllocError>
+pub(crate) fn denied_rules<'a>(
+    alloc: Global,
+    lines: &[&'a [u8]],
+) -> Result<Vec<&'a [u8]>, AllocError>
     ensures { IfOk result (λ v. map (λ rule. rule.now) v.items
-        ≡ rules_of (map (λ line. line.now) lines.now)) }
+        ≡ denied_rules (map (λ line. line.now) lines.now)) }
 {
     let mut rules = Vec::new(alloc);
     for line in lines {
@@ -140,7 +143,7 @@ fn push_rule(
     rest: &[&[u8]],
 ) -> Result<(), AllocError>
     ensures { OnOk result (text.new.items ≡ text.old.items
-        ++ rule_text (map (λ r. r.now) before.now) rule.now (map (λ r. r.now) rest.now)) }
+        ++ rule_count_text (map (λ r. r.now) before.now) rule.now (map (λ r. r.now) rest.now)) }
 {
     if is_among(rule, before) {
         return Ok(());

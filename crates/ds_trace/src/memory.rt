@@ -7,8 +7,8 @@ ghost use Rattle.ds_pagemap.specs.Machine.{State};
 ghost use Rattle.ds_refinement.specs.Stands.{Stands};
 ghost use Rattle.ds_station.specs.Faults.{is_unwritten};
 ghost use Rattle.ds_station.specs.Reads.{memory_held};
-ghost use Rattle.ds_trace.specs.Handed.{IsLate};
-ghost use Rattle.ds_trace.specs.Memory.{back_text, front_text, memory_text, piece_text, pieces_text, word_text};
+ghost use Rattle.ds_trace.specs.Inner.Handed.{IsLate};
+ghost use Rattle.ds_trace.specs.Memory.{back_text, line_front_text, memory_text, piece_text, pieces_text, read_word_text};
 
 use ds_log::{Output, send};
 use ds_station::{Fault, Station};
@@ -19,7 +19,7 @@ use std::alloc::{AllocError, Global};
 /// Begins a line before each eighth word: the process, and the word's address.
 fn push_front(text: &mut String, process: u32, address: u32, index: u32) -> Result<(), AllocError>
     ensures { OnOk result (string_bytes text.new
-        ≡ string_bytes text.old ++ front_text process address index) }
+        ≡ string_bytes text.old ++ line_front_text process address index) }
 {
     if index % 8 != 0 {
         return Ok(());
@@ -33,7 +33,7 @@ fn push_front(text: &mut String, process: u32, address: u32, index: u32) -> Resu
 
 /// Adds a word, or a sign for one that may not be read.
 fn push_word(text: &mut String, word: Option<u32>) -> Result<(), AllocError>
-    ensures { OnOk result (string_bytes text.new ≡ string_bytes text.old ++ word_text word) }
+    ensures { OnOk result (string_bytes text.new ≡ string_bytes text.old ++ read_word_text word) }
 {
     match word {
         Some(word) => {

@@ -1,7 +1,8 @@
 //! What the processor did in a run, which depends on Random.
 ghost use Rattle.std.specs.Prelude.{◌≡◌, ◌<◌, ◌^◌, ◌++◌, OnOk, codes};
 ghost use Rattle.std.specs.String.{string_bytes};
-ghost use Rattle.ds_trace.specs.Processors.{entries_text, entry_text, named_text, none_processed, processor_line, processor_text, right_text, stage_after, total};
+ghost use Rattle.ds_trace.specs.Processors.{buffer_lines_text, valid_entry_text, named_text, none_processed, processor_line, processor_text, dirty_text, stage_after};
+ghost use Rattle.ds_trace.specs.Inner.Processors.{total};
 
 use crate::lines::push_newline;
 use ds_station::{Stage, Station};
@@ -87,7 +88,7 @@ fn push_counts(line: &mut String, counts: &ProcessorCounts) -> Result<(), AllocE
 
 /// Adds what may be done with a page.
 fn push_right(line: &mut String, dirty: bool) -> Result<(), AllocError>
-    ensures { OnOk result (string_bytes line.new ≡ string_bytes line.old ++ right_text dirty) }
+    ensures { OnOk result (string_bytes line.new ≡ string_bytes line.old ++ dirty_text dirty) }
 {
     if dirty {
         line.push_str("write")
@@ -99,7 +100,7 @@ fn push_right(line: &mut String, dirty: bool) -> Result<(), AllocError>
 /// Adds the line of an entry, if that is valid.
 fn push_entry(line: &mut String, slot: usize, entry: Entry) -> Result<(), AllocError>
     ensures { OnOk result
-        (string_bytes line.new ≡ string_bytes line.old ++ entry_text slot entry) }
+        (string_bytes line.new ≡ string_bytes line.old ++ valid_entry_text slot entry) }
 {
     if !entry.v {
         return Ok(());
@@ -123,7 +124,7 @@ pub(crate) fn push_entries<L: Lookaside>(
     station: &Station<L>,
 ) -> Result<(), AllocError>
     ensures { OnOk result (string_bytes line.new
-        ≡ string_bytes line.old ++ entries_text 0 station.now.held.core.entries) }
+        ≡ string_bytes line.old ++ buffer_lines_text 0 station.now.held.core.entries) }
 {
     for slot in 0..station.slots() {
         push_entry(line, slot, station.entry(slot))?;

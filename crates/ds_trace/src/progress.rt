@@ -1,7 +1,7 @@
 //! What is kept of a run while it is followed.
 ghost use Rattle.std.specs.Prelude.{◌≡◌, OnOk, is_some};
 ghost use Rattle.ds_trace.specs.Counts.{none_counted};
-ghost use Rattle.ds_trace.specs.Shows.{progress_held};
+ghost use Rattle.ds_trace.specs.Inner.Shows.{progress_held};
 
 use crate::before::Before;
 use crate::counts::Counts;
@@ -29,7 +29,7 @@ impl Progress {
     }
 
     /// Counts the half turn that is done, and looks at the station for the next.
-    pub(crate) fn go_on<L: Lookaside>(
+    pub(crate) fn pass_half_turn<L: Lookaside>(
         &mut self,
         view: &View<'_>,
         station: &Station<L>,

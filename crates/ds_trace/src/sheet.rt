@@ -5,9 +5,9 @@ ghost use Rattle.std.specs.Io.KnownBytes.{Appends};
 ghost use Rattle.ds_log.specs.Sent.{AppendsPart, IsAskedOnce};
 ghost use Rattle.ds_trace.specs.Boundaries.{boundary_text};
 ghost use Rattle.ds_trace.specs.Changes.{changes_text};
-ghost use Rattle.ds_trace.specs.Halves.{done_text, entries_text, opening_text, process_in};
-ghost use Rattle.ds_trace.specs.Lines.{denied_text, unit_told};
-ghost use Rattle.ds_trace.specs.Shows.{end_held, found_held, half_held, processor_held};
+ghost use Rattle.ds_trace.specs.Halves.{done_text, changed_entries_text, opening_text, process_of_start};
+ghost use Rattle.ds_trace.specs.Lines.{logged_text, unit_told};
+ghost use Rattle.ds_trace.specs.Inner.Shows.{end_held, found_held, half_held, processor_held};
 
 use crate::before::Before;
 use crate::boundaries::{push_commands, push_keys, push_lost};
@@ -56,7 +56,7 @@ impl Sheet {
     /// Adds what a unit logged.
     fn push_denied(&mut self, logged: &[u8]) -> Result<(), AllocError>
         ensures { OnOk result
-            (self.new.text.items ≡ self.old.text.items ++ denied_text logged.now) }
+            (self.new.text.items ≡ self.old.text.items ++ logged_text logged.now) }
     {
         if logged.is_empty() {
             return Ok(());
@@ -96,7 +96,7 @@ impl Sheet {
     ) -> Result<(), AllocError>
         ensures { OnOk result (self.new.text.items ≡ self.old.text.items
             ++ boundary_text view.now before.now
-            (found_held (process_in before.now.start) station.now.held)) }
+            (found_held (process_of_start before.now.start) station.now.held)) }
     {
         if !view.shows_rest() {
             return Ok(());
@@ -120,8 +120,8 @@ impl Sheet {
         station: &Station<L>,
     ) -> Result<(), AllocError>
         ensures { OnOk result (self.new.text.items ≡ self.old.text.items
-            ++ entries_text view.now before.now
-            (found_held (process_in before.now.start) station.now.held)) }
+            ++ changed_entries_text view.now before.now
+            (found_held (process_of_start before.now.start) station.now.held)) }
     {
         if !view.shows_entries() {
             return Ok(());
@@ -148,7 +148,7 @@ impl Sheet {
         requires owed { owed ≡ is_some station.now.held.kept.state.owed }
         ensures { OnOk result (self.new.text.items ≡ self.old.text.items
             ++ done_text view.now before.now
-            (found_held (process_in before.now.start) station.now.held) before.now.start) }
+            (found_held (process_of_start before.now.start) station.now.held) before.now.start) }
     {
         match before.start {
             Some(start) => {
@@ -175,7 +175,7 @@ impl Sheet {
     ) -> Result<(), AllocError>
         ensures { OnOk result (self.new.text.items ≡ self.old.text.items
             ++ changes_text view.now before.now
-            (found_held (process_in before.now.start) station.now.held)) }
+            (found_held (process_of_start before.now.start) station.now.held)) }
     {
         if !view.shows_switches() {
             return Ok(());
@@ -208,7 +208,7 @@ impl Sheet {
 
     /// Adds the lines of a half turn, by the counts before it, what was looked at before it and what the
     /// station shows now, and by whether it owes a boundary now.
-    pub(crate) fn push_half<L: Lookaside>(
+    pub(crate) fn push_half_turn<L: Lookaside>(
         &mut self,
         view: &View<'_>,
         counts: &Counts,

@@ -2,10 +2,10 @@
 ghost use Rattle.std.specs.Prelude.{◌≡◌, IfOk, Some, map, option_map};
 ghost use Rattle.ds_asm.specs.Assembly.{assembled};
 ghost use Rattle.ds_listing.specs.Pages.{plain_page, plain_pages};
-ghost use Rattle.ds_listing.specs.Places.{plain_place};
+ghost use Rattle.ds_listing.specs.Places.{plain_line_place};
 ghost use Rattle.ds_pagemap.specs.Inputs.{text_named};
 ghost use Rattle.ds_station.specs.Headline.{sources_seen};
-ghost use Rattle.ds_trace.specs.Sources.{lines_by, lines_named, page_with, pages_with};
+ghost use Rattle.ds_trace.specs.Sources.{lines_with_image, lines_named, page_with, pages_with};
 
 use ds_asm::{AsmFault, assemble};
 use ds_listing::{LinePlace, PageLines, line_places};
@@ -26,8 +26,8 @@ fn text_named<'a>(sources: &[(&str, &'a [u8])], name: &str) -> Option<&'a [u8]>
 
 /// The lines of a text, where it has an image.
 fn lines_of<'a>(alloc: Global, text: &'a [u8]) -> Result<Option<Vec<LinePlace<'a>>>, AllocError>
-    ensures { IfOk result (λ lines. option_map (λ v. map plain_place v.items) lines
-        ≡ lines_by text.entry.now (assembled text.entry.now)) }
+    ensures { IfOk result (λ lines. option_map (λ v. map plain_line_place v.items) lines
+        ≡ lines_with_image text.entry.now (assembled text.entry.now)) }
 {
     match assemble(alloc, text) {
         Ok(image) => {
@@ -45,7 +45,7 @@ fn lines_named<'a>(
     sources: &[(&str, &'a [u8])],
     name: &str,
 ) -> Result<Option<Vec<LinePlace<'a>>>, AllocError>
-    ensures { IfOk result (λ lines. option_map (λ v. map plain_place v.items) lines
+    ensures { IfOk result (λ lines. option_map (λ v. map plain_line_place v.items) lines
         ≡ lines_named (sources_seen sources.now) name.now) }
 {
     match text_named(sources, name) {

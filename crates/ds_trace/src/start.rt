@@ -4,8 +4,8 @@ ghost use Rattle.ds_policy.specs.Pages.{found, page_address};
 ghost use Rattle.ds_pagemap.specs.Machine.{first};
 ghost use Rattle.ds_procs.specs.Calls.{call_of};
 ghost use Rattle.ds_station.specs.Reads.{address_held, general_held, memory_held};
-ghost use Rattle.ds_trace.specs.Shows.{start_held};
-ghost use Rattle.ds_trace.specs.Starts.{call_at, is_call, page_at, slot_of, start_at};
+ghost use Rattle.ds_trace.specs.Inner.Shows.{start_held};
+ghost use Rattle.ds_trace.specs.Starts.{call_at, is_call, page_named_at, slot_of, start_at};
 
 use crate::entries::grant_at;
 use crate::loads::{loaded_at, slot_loaded_at};
@@ -96,9 +96,9 @@ fn call_at(general: &[u32; 32], word: Option<u32>) -> Option<Call>
 }
 
 /// The page that the entry of a process at an address names, if it names one.
-fn page_at<L: Lookaside>(station: &Station<L>, process: u32, address: u32) -> Option<u32>
+fn page_named_at<L: Lookaside>(station: &Station<L>, process: u32, address: u32) -> Option<u32>
     requires { 0 < process }
-    ensures { result ≡ page_at (memory_held station.now.held) process address }
+    ensures { result ≡ page_named_at (memory_held station.now.held) process address }
 {
     let grant = grant_at(station.entries(process), address - address % 4096)?;
     grant.page
@@ -125,8 +125,8 @@ impl Start {
             slot,
             call: call_at(&general, word),
             number: held_in(&general, 2),
-            page: page_at(station, process, address),
-            slot_page: page_at(station, process, wrapping_sum(address, 4)),
+            page: page_named_at(station, process, address),
+            slot_page: page_named_at(station, process, wrapping_sum(address, 4)),
             loaded: loaded_at(&general, word),
             slot_loaded: slot_loaded_at(&general, word, slot),
         }

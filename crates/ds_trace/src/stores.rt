@@ -2,7 +2,7 @@
 ghost use Rattle.std.specs.Prelude.{◌≡◌, ◌++◌, OnOk, length, slice_index};
 ghost use Rattle.std.specs.String.{string_bytes};
 ghost use Rattle.ds_station.specs.Reads.{memory_held};
-ghost use Rattle.ds_trace.specs.Stores.{is_lost, reach_of, stored_at, stored_text, word_seen, word_text};
+ghost use Rattle.ds_trace.specs.Stores.{is_lost, reach_of, stored_at, stored_text, word_seen, stored_word_text};
 
 use ds_isa::Instr;
 use ds_station::Station;
@@ -72,7 +72,7 @@ pub(crate) fn stored_at(general: &[u32; 32], reach: Option<Reach>) -> Option<u32
 /// Adds a word with its address.
 fn push_stored_word(line: &mut String, address: u32, word: Option<u32>) -> Result<(), AllocError>
     ensures { OnOk result
-        (string_bytes line.new ≡ string_bytes line.old ++ word_text address word) }
+        (string_bytes line.new ≡ string_bytes line.old ++ stored_word_text address word) }
 {
     match word {
         Some(word) => {

@@ -1,11 +1,11 @@
 //! What is told of the whole run before how each process stands.
 ghost use Rattle.std.specs.Prelude.{◌≡◌, ◌++◌, IfOk, OnOk, codes, decimal, length, map};
 ghost use Rattle.std.specs.String.{string_bytes};
-ghost use Rattle.ds_trace.specs.Logs.{lines_of, rules_of, rules_text};
-ghost use Rattle.ds_trace.specs.Summaries.{call_line, call_name, calls_text, counts_text, events_text, halves_text, summary_text, time_text, totals_text};
+ghost use Rattle.ds_trace.specs.Logs.{lines_of, denied_rules, rules_text};
+ghost use Rattle.ds_trace.specs.Summaries.{call_line, call_name, calls_text, counts_text, event_counts_text, halves_text, summary_text, end_time_text, totals_text};
 
 use crate::counts::{CALLS, Counts};
-use crate::logs::{lines_of, push_rules, rules_of};
+use crate::logs::{denied_rules, lines_of, push_rules};
 use ds_text::string::push_decimal;
 use ds_words::View;
 use std::alloc::{AllocError, Global};
@@ -78,7 +78,7 @@ fn push_halves(line: &mut String, from: u64, counts: &Counts) -> Result<(), Allo
 /// Adds how many calls, denials, gives by copy and lost characters there were.
 fn push_events(line: &mut String, counts: &Counts, denials: usize) -> Result<(), AllocError>
     ensures { OnOk result
-        (string_bytes line.new ≡ string_bytes line.old ++ events_text counts.now denials) }
+        (string_bytes line.new ≡ string_bytes line.old ++ event_counts_text counts.now denials) }
 {
     push_total(line, " calls ", counts.made)?;
     push_total(line, " denials ", denials as u64)?;
@@ -127,7 +127,7 @@ fn push_time(
     rules: &[&[u8]],
 ) -> Result<(), AllocError>
     ensures { OnOk result (text.new.items ≡ text.old.items
-        ++ time_text time (map (λ r. r.now) rules.now)) }
+        ++ end_time_text time (map (λ r. r.now) rules.now)) }
 {
     line.clear();
     push_total(line, "time ", time)?;
@@ -138,10 +138,10 @@ fn push_time(
 
 /// The rules of denials in the lines of a text.
 fn rules_in<'a>(alloc: Global, text: &'a [u8]) -> Result<Vec<&'a [u8]>, AllocError>
-    ensures { IfOk result (λ v. map (λ r. r.now) v.items ≡ rules_of (lines_of text.now)) }
+    ensures { IfOk result (λ v. map (λ r. r.now) v.items ≡ denied_rules (lines_of text.now)) }
 {
     let lines = lines_of(alloc, text)?;
-    rules_of(alloc, lines.as_slice())
+    denied_rules(alloc, lines.as_slice())
 }
 
 /// Adds what is told of the whole run: its counts, or its last time where the end alone is told.
@@ -161,7 +161,7 @@ pub(crate) fn push_summary(
         let rules = rules_in(alloc, counts.denied.as_slice())?;
         push_counts(text, line, view.from, counts, rules.as_slice())
     } else {
-        let rules = rules_of(alloc, lines)?;
+        let rules = denied_rules(alloc, lines)?;
         push_time(text, line, time, rules.as_slice())
     }
 }

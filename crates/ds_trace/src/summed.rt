@@ -11,17 +11,18 @@ ghost use Rattle.ds_policy.specs.InputText.{input_of};
 ghost use Rattle.ds_policy.specs.PolicyFacts.{IsGoodPolicy};
 ghost use Rattle.ds_policy.specs.Value.{InputValue};
 ghost use Rattle.ds_promise.specs.Quiet.{IsQuiet};
-ghost use Rattle.ds_refinement.specs.Stands.{IsSound};
+ghost use Rattle.ds_refinement.specs.Inner.Stands.{IsSound};
 ghost use Rattle.ds_station.specs.Alone.{WritesAlone};
 ghost use Rattle.ds_station.specs.Faults.{is_unwritten};
-ghost use Rattle.ds_station.specs.Headline.{Along, Begins, EndsBy, EndsReally, Followed, IsRefused, WritesReally, loaded, sources_seen};
+ghost use Rattle.ds_station.specs.Headline.{Along, Begins, EndsBy, EndsReally, Followed, IsRefused, WritesReally, loaded_with, sources_seen};
 ghost use Rattle.ds_station.specs.Written.{EndsGuarded, WritesGuarded, WritesUntouched};
 ghost use Rattle.ds_trace.specs.Counts.{none_counted};
-ghost use Rattle.ds_trace.specs.Summed.{CountsAll, SumsUp, SumsUpShort, TellsOf, WritesSummed, counted_text, counting, unknown_text};
+ghost use Rattle.ds_trace.specs.Summed.{counted_text, unknown_count_text};
+ghost use Rattle.ds_trace.specs.Inner.Summed.{CountsAll, SumsUp, SumsUpShort, TellsOf, WritesSummed, counting};
 
 use crate::accounts::push_end_of_run;
 use crate::counts::Counts;
-use crate::logs::{lines_of, push_rules, rules_of};
+use crate::logs::{denied_rules, lines_of, push_rules};
 use crate::losses::push_losses;
 use crate::processor::ProcessorCounts;
 use crate::progress::Progress;
@@ -52,7 +53,7 @@ pub struct Summed {
 /// Adds how many calls there were of numbers that are no call.
 fn push_unknown(line: &mut String, count: u64) -> Result<(), AllocError>
     ensures { OnOk result
-        (string_bytes line.new ≡ string_bytes line.old ++ unknown_text count) }
+        (string_bytes line.new ≡ string_bytes line.old ++ unknown_count_text count) }
 {
     if count == 0 {
         return Ok(());
@@ -95,7 +96,7 @@ pub(crate) fn summary<L: Lookaside>(
         station.now.held text.items) }
 {
     let lines = lines_of(alloc, station.log())?;
-    let rules = rules_of(alloc, lines.as_slice())?;
+    let rules = denied_rules(alloc, lines.as_slice())?;
     let mut text = Vec::new(alloc);
     let mut line = String::new(alloc);
     push_end_of_run(&mut text, &mut line, lines.as_slice(), station, n)?;
@@ -217,13 +218,13 @@ pub fn run_summed<O: Output>(
         (inputs_under policy.now (sources_seen sources.now) input.now n random)
         (WritesSummed s.text.items s.station.held (O.contents out.old) (O.contents out.new) n)) }
     ensures real { OnOk result (Begins
-        (inputs_under_by loaded policy.now (sources_seen sources.now) input.now n random)
+        (inputs_under_by loaded_with policy.now (sources_seen sources.now) input.now n random)
         (WritesReally Along (O.contents out.old) (O.contents out.new) n random)) }
     ensures err { IfErr result (λ f. EndsBy f
         (inputs_under policy.now (sources_seen sources.now) input.now n random)
         (O.contents out.old) (O.contents out.new) n) }
     ensures cut { IfErr result (λ f. EndsReally Along f
-        (inputs_under_by loaded policy.now (sources_seen sources.now) input.now n random)
+        (inputs_under_by loaded_with policy.now (sources_seen sources.now) input.now n random)
         (O.contents out.old) (O.contents out.new) n random) }
     ensures refused { (refusal : Refusal)
         → inputs_under policy.now (sources_seen sources.now) input.now n random ≡ Err refusal
@@ -244,10 +245,10 @@ pub fn run_summed<O: Output>(
         → AsksNothing listens p first → IsQuietAlone p first
         → OnOk result (WritesAlone (O.contents out.old) (O.contents out.new) p first) }
     ensures followed { OnOk result (Begins
-        (inputs_under_by loaded policy.now (sources_seen sources.now) input.now n random)
+        (inputs_under_by loaded_with policy.now (sources_seen sources.now) input.now n random)
         (WritesReally Followed (O.contents out.old) (O.contents out.new) n random)) }
     ensures followed_so_far { IfErr result (λ f. EndsReally Followed f
-        (inputs_under_by loaded policy.now (sources_seen sources.now) input.now n random)
+        (inputs_under_by loaded_with policy.now (sources_seen sources.now) input.now n random)
         (O.contents out.old) (O.contents out.new) n random) }
     ensures once { IsAskedOnce (O.answers out.old) (O.answers out.new) (is_unwritten result) }
 {

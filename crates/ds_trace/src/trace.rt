@@ -3,17 +3,18 @@ ghost use Rattle.std.specs.Prelude.{◌≡◌, ◌<◌, ◌≤◌, ◌^◌, ◌+
 ghost use Rattle.std.specs.String.{string_bytes};
 ghost use Rattle.std.specs.Io.KnownBytes.{Appends, Keeps};
 ghost use Rattle.ds_log.specs.Sent.{AppendsPart, IsAskedOnce};
-ghost use Rattle.ds_refinement.specs.Stands.{IsSound};
+ghost use Rattle.ds_refinement.specs.Inner.Stands.{IsSound};
 ghost use Rattle.ds_station.specs.Faults.{is_unwritten};
 ghost use Rattle.ds_station.specs.Headline.{held_text};
 ghost use Rattle.ds_station.specs.declared.fault.Fault.TheVariants as fault;
-ghost use Rattle.ds_trace.specs.Advanced.{Adds, Advances, is_last};
-ghost use Rattle.ds_trace.specs.Counted.{CountsStep, HasCounted, WatchesAfter};
+ghost use Rattle.ds_trace.specs.Inner.Advanced.{Adds, Advances, is_last};
+ghost use Rattle.ds_trace.specs.Inner.Counted.{CountsStep, HasCounted, WatchesAfter};
 ghost use Rattle.ds_trace.specs.Counts.{none_counted};
-ghost use Rattle.ds_trace.specs.Handed.{IsFinished, IsHandedOn, IsLate};
-ghost use Rattle.ds_trace.specs.Processors.{none_processed, told_from, total, window_end};
-ghost use Rattle.ds_trace.specs.Summed.{TracesSummed};
-ghost use Rattle.ds_trace.specs.Shows.{IsCutIf, TellsAll, TracesLines, TracesPart, TracesShort, end_held, half_held, progress_held};
+ghost use Rattle.ds_trace.specs.Inner.Handed.{IsFinished, IsHandedOn, IsLate};
+ghost use Rattle.ds_trace.specs.Processors.{none_processed, told_from, window_end};
+ghost use Rattle.ds_trace.specs.Inner.Processors.{total};
+ghost use Rattle.ds_trace.specs.Inner.Summed.{TracesSummed};
+ghost use Rattle.ds_trace.specs.Inner.Shows.{IsCutIf, TellsAll, TracesLines, TracesPart, TracesShort, end_held, half_held, progress_held};
 ghost use Rattle.ds_words.specs.Views.{has_lines};
 
 use crate::before::Before;
@@ -48,8 +49,8 @@ fn tell_half<L: Lookaside>(
     ensures next { OnOk result
         (progress.new ≡ progress_held owed view.now progress.old station.now.held) }
 {
-    sheet.push_half(view, &progress.counts, &progress.before, station, owed)?;
-    progress.go_on(view, station, owed)
+    sheet.push_half_turn(view, &progress.counts, &progress.before, station, owed)?;
+    progress.pass_half_turn(view, station, owed)
 }
 
 /// Adds the lines of the half turn that a step has ended, if it has.

@@ -2,8 +2,8 @@
 ghost use Rattle.std.specs.Prelude.{◌≡◌, ◌++◌, [], OnOk};
 ghost use Rattle.std.specs.String.{string_bytes};
 ghost use Rattle.ds_words.specs.Views.{is_before};
-ghost use Rattle.ds_trace.specs.Counted.{WatchesAt};
-ghost use Rattle.ds_trace.specs.Processors.{left_text, window_end};
+ghost use Rattle.ds_trace.specs.Inner.Counted.{WatchesAt};
+ghost use Rattle.ds_trace.specs.Processors.{window_left_text, window_end};
 
 use crate::processor::{push_cause, push_entries};
 use ds_station::Station;
@@ -45,7 +45,7 @@ fn ends_later(end: Option<u64>, time: u64) -> bool
 /// Adds at which time a run left the window, and the entries of the buffer then.
 fn push_window<L: Lookaside>(line: &mut String, station: &Station<L>) -> Result<(), AllocError>
     ensures { OnOk result
-        (string_bytes line.new ≡ string_bytes line.old ++ left_text station.now.held) }
+        (string_bytes line.new ≡ string_bytes line.old ++ window_left_text station.now.held) }
 {
     line.push_str("entries at ")?;
     push_decimal(line, station.time())?;

@@ -5,11 +5,6 @@ use Rattle.std.specs.Prelude.{ℕ, ◌+◌, ◌-◌, ◌*◌, ◌/◌, ◌%◌, 
 abbrev pub bytes_of_word : ℕ → List ℕ
 bytes_of_word w = (w % 2 ^ 8) ∷ (w / 2 ^ 8 % 2 ^ 8) ∷ (w / 2 ^ 16 % 2 ^ 8) ∷ (w / 2 ^ 24) ∷ []
 
--- the bytes of words, one word after the other
-abbrev pub bytes_of_words : List ℕ → List ℕ
-bytes_of_words [] = []
-bytes_of_words (w ∷ ws) = bytes_of_word w ++ bytes_of_words ws
-
 -- the aligned word in which a place lies
 abbrev pub word_at : List ℕ → ℕ → ℕ
 word_at bytes place =

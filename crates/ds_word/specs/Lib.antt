@@ -7,3 +7,4 @@ pub mod Product
 pub mod ResultBinding
 pub mod Rows
 pub mod Word
+pub mod Inner

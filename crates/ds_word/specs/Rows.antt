@@ -1,6 +1,7 @@
 -- Worked rows: merges of the word 44332211 with the register AABBCCDD, products and quotients, bytes and digits.
 use Rattle.std.specs.Prelude.{codes, ◌≡◌, refl, ℕ, ◌*◌, List, [], ◌∷◌, map, true, Some, None}
-use Rattle.ds_word.specs.Bytes.{bytes_of_word, bytes_of_words, word_at, with_word}
+use Rattle.ds_word.specs.Bytes.{bytes_of_word, word_at, with_word}
+use Rattle.ds_word.specs.Inner.Bytes.{bytes_of_words}
 use Rattle.ds_word.specs.Digits.{digits_from}
 use Rattle.ds_word.specs.Word.{sign_extended, signed_lt}
 use Rattle.ds_word.specs.Arithmetic.{shifted_arithmetic, signed_sum, signed_difference}

@@ -1,12 +1,7 @@
 //! What arithmetic makes of words. Sums and shifts wrap modulo 2^32.
 ghost use Rattle.std.specs.Prelude.{◌≡◌, ◌<◌, ◌+◌, ◌-◌, ◌*◌, ◌/◌, ◌%◌, ◌^◌};
 ghost use Rattle.ds_word.specs.Word.{word, minus, sign_extended};
-ghost use Rattle.ds_word.specs.Arithmetic.{
-  signed_sum,
-  signed_difference,
-  shifted_arithmetic,
-  wrong_sign,
-};
+ghost use Rattle.ds_word.specs.Arithmetic.{signed_sum, signed_difference, shifted_arithmetic, wrong_sign};
 
 use crate::is_negative;
 

@@ -2,13 +2,7 @@
 //! DIV, DIVU).
 ghost use Rattle.std.specs.Prelude.{◌≡◌, ◌≤◌, ◌*◌, ◌^◌};
 ghost use Rattle.ds_word.specs.Word.{magnitude};
-ghost use Rattle.ds_word.specs.Product.{
-  halves,
-  with_sign,
-  product_signed,
-  quotient_signed,
-  quotient_unsigned,
-};
+ghost use Rattle.ds_word.specs.Product.{halves, with_sign, product_signed, quotient_signed, quotient_unsigned};
 
 use crate::is_negative;
 

@@ -6,7 +6,8 @@ use Rattle.std.proofs.lemmas.Bool.{cases_eq, cases_lt, eq-eqb, ne_eqb}
 use Rattle.std.proofs.lemmas.Bool.Decides.{nat_tests}
 use Rattle.std.proofs.lemmas.List.{get_or-set_same, get_or-set_other, get_or-replicate, get_or_past, length-replicate, set_past}
 use Rattle.ds_words.specs.declared.processes.Processes.{Processes}
-use Rattle.ds_words.specs.Sets.{holds, is_among, no_processes, processes_of, with_process}
+use Rattle.ds_words.specs.Sets.{has_process, no_processes, processes_numbered, joined_process}
+use Rattle.ds_words.specs.Inner.Sets.{is_among}
 
 none_within : (n p : ℕ) → slice_index_or (replicate n false) p false ≡ false
 none_within n p = elim (cases_lt p n) [
@@ -36,25 +37,25 @@ or_true false = refl
 
 -- what one more number adds
 one_more : (s : Processes) (n p : ℕ) → length s.marks ≡ 101
-    → holds (with_process s n) p ≡ (holds s p || (nat_le p 100 && n == p))
+    → has_process (joined_process s n) p ≡ (has_process s p || (nat_le p 100 && n == p))
 one_more s n p size = elim (cases_eq p n) [
   | inl same ↦ elim (cases_lt p 101) [
     | inl within ↦
         let low : nat_le p 100 ≡ true = grind (arith, nat_tests) in
-        rw (low, eq-eqb n p (sym same)) (rw same (get_or-set_same s.marks n true false (omega (arith, within, size, same))) ∙ or_true (holds s p))
+        rw (low, eq-eqb n p (sym same)) (rw same (get_or-set_same s.marks n true false (omega (arith, within, size, same))) ∙ or_true (has_process s p))
     | inr past ↦
         let high : nat_le p 100 ≡ false = grind (arith, nat_tests) in
-        rw high (ap (λ (xs : List Bool). slice_index_or xs p false) (set_past s.marks n true (omega (arith, past, size, same))) ∙ or_false (holds s p))
+        rw high (ap (λ (xs : List Bool). slice_index_or xs p false) (set_past s.marks n true (omega (arith, past, size, same))) ∙ or_false (has_process s p))
   ]
-  | inr other ↦ rw (ne_eqb n p (λ e. other (sym e))) (get_or-set_other s.marks n p true false other ∙ or_none (holds s p) (nat_le p 100))
+  | inr other ↦ rw (ne_eqb n p (λ e. other (sym e))) (get_or-set_other s.marks n p true false other ∙ or_none (has_process s p) (nat_le p 100))
 ]
 
 among : (numbers : List ℕ) (s : Processes) (p : ℕ) → length s.marks ≡ 101
-    → holds (fold with_process s numbers) p ≡ (holds s p || is_among numbers p)
-among [] s p size = or_none (holds s p) (nat_le p 100)
-among (n ∷ rest) s p size = among rest (with_process s n) p (length-set s.marks n true ∙ size)
-    ∙ (ap (λ b. b || is_among rest p) (one_more s n p size) ∙ either (holds s p) (nat_le p 100) (n == p) (list_any (λ m. m == p) rest))
+    → has_process (fold joined_process s numbers) p ≡ (has_process s p || is_among numbers p)
+among [] s p size = or_none (has_process s p) (nat_le p 100)
+among (n ∷ rest) s p size = among rest (joined_process s n) p (length-set s.marks n true ∙ size)
+    ∙ (ap (λ b. b || is_among rest p) (one_more s n p size) ∙ either (has_process s p) (nat_le p 100) (n == p) (list_any (λ m. m == p) rest))
 
 -- a process is in the set of these numbers where its own is among them
-pub held : (numbers : List ℕ) (p : ℕ) → holds (processes_of numbers) p ≡ is_among numbers p
+pub held : (numbers : List ℕ) (p : ℕ) → has_process (processes_numbered numbers) p ≡ is_among numbers p
 held numbers p = among numbers no_processes p refl ∙ ap (λ b. b || is_among numbers p) (none_within 101 p)

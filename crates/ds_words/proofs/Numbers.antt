@@ -10,7 +10,7 @@ use Rattle.clap.specs.declared.parser.matches.Found.{Found}
 use Rattle.clap.specs.declared.parser.matches.ValuesRef.{ValuesRef}
 use Rattle.clap.proofs.WalkLemmas.{typed_values-rows}
 use Rattle.ds_words.specs.declared.processes.Processes.{Processes}
-use Rattle.ds_words.specs.Sets.{no_processes, with_process}
+use Rattle.ds_words.specs.Sets.{no_processes, joined_process}
 use Rattle.ds_words.specs.Words.{AreNumbers, IsNumber, NamesProcesses, WriteProcesses}
 
 -- of all texts those that are no longer left write the numbers of these processes
@@ -38,7 +38,7 @@ ok_of (Err e) n is = search is
 pub more_written : {E : Type 0} (gives : List ℕ → Result ℕ E → Type 0) (all left rest : List Text) (processes more : Processes) (r : Result ℕ E) (n : ℕ)
     → ((t : List ℕ) (x : Result ℕ E) → gives t x → ParsesUnsigned 32 10 t x)
     → HaveWritten all left processes → StepsValues gives left rest (Some r) → result_ok r ≡ Some n
-    → more ≡ with_process processes n → HaveWritten all rest more
+    → more ≡ joined_process processes n → HaveWritten all rest more
 more_written gives all [] rest processes more r n parses have steps is adds = absurd steps
 more_written gives all (text ∷ left) rest processes more r n parses have steps is adds =
     let p = parses text (Ok n) (subst (gives text) (ok_of r n is) steps.0) in
@@ -48,7 +48,7 @@ more_written gives all (text ∷ left) rest processes more r n parses have steps
       of = record {
         numbers = have.of.numbers ++ n ∷ [];
         written = one_more 32 have.texts text have.of.numbers n have.of.written (p.0.0, sym p.1, subst (λ (m : ℕ). m < 2 ^ 32) (sym p.1) p.0.1);
-        are = adds ∙ (ap (λ (s : Processes). with_process s n) have.of.are ∙ sym (fold-append with_process no_processes have.of.numbers (n ∷ [])));
+        are = adds ∙ (ap (λ (s : Processes). joined_process s n) have.of.are ∙ sym (fold-append joined_process no_processes have.of.numbers (n ∷ [])));
       };
     }
 

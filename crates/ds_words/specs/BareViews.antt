@@ -1,11 +1,9 @@
 -- Which instructions of a run on the bare machine are told.
-use Rattle.std.specs.Prelude.{◌≡◌, ℕ, Bool, true, false, not, ◌&&◌, nat_le, [], Option, Some, None}
+use Rattle.std.specs.Prelude.{ℕ, Bool, true, false, not, ◌&&◌, nat_le, Option, Some}
 use Rattle.ds_words.specs.declared.bare_view.BareOnly.{BareOnly}
 use Rattle.ds_words.specs.declared.bare_view.BareOnly.TheVariants.{End}
 use Rattle.ds_words.specs.declared.bare_view.BareView.{BareView}
-use Rattle.ds_words.specs.Spans.{spans_in}
 use Rattle.ds_words.specs.Views.{is_before}
-use Rattle.ds_listing.specs.declared.names.RegisterNames.TheVariants.{Numbers}
 
 -- whether the end alone is told
 abbrev pub is_end : Option BareOnly → Bool
@@ -15,12 +13,3 @@ is_end other = false
 -- whether anything may be told of the instruction with a number
 abbrev pub reaches : BareView → ℕ → Bool
 reaches v number = not v.quiet && not (is_end v.only) && nat_le v.from number && is_before v.to number
-
--- all instructions are told, and nothing more of the end than there always is
-pub record IsWhole (v : BareView) : Type 0 where
-  pub each : (number : ℕ) → reaches v number ≡ true
-  pub kind : v.only ≡ None
-  pub matches : v.matches ≡ false
-  pub counts : v.counts ≡ false
-  pub memory : spans_in v.memory ≡ []
-  pub names : v.names ≡ Numbers

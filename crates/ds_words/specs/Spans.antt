@@ -4,7 +4,7 @@ use Rattle.std.specs.List.{AllZip, after_first, before_first}
 use Rattle.clap.specs.Words.{Text}
 use Rattle.ds_words.specs.declared.spans.Span.{Span}
 use Rattle.ds_words.specs.declared.spans.Spans.{Spans}
-use Rattle.ds_words.specs.Windows.{address_of, digits_of, is_colon}
+use Rattle.ds_words.specs.Windows.{window_address, digits_of, is_colon}
 
 -- the spans that are kept
 abbrev pub spans_in : Spans → List Span
@@ -23,7 +23,7 @@ span_by address count = option_and_then (λ a. option_map (λ n. record { addres
 
 -- ADDRESS:COUNT as numbers: its parts stand around the first colon
 abbrev pub written_span : Text → Option Span
-written_span text = span_by (address_of (before_first is_colon text)) (digits_of 10 10 (after_first is_colon text))
+written_span text = span_by (window_address (before_first is_colon text)) (digits_of 10 10 (after_first is_colon text))
 
 -- a text writes a span that there may be
 pub record WritesSpan (text : Text) (s : Span) : Type 0 where

@@ -1,7 +1,7 @@
 -- Which lines of a trace are told.
 use Rattle.std.specs.Prelude.{ℕ, Bool, true, false, not, ◌&&◌, nat_le, nat_lt, [], Option, Some, None}
 use Rattle.ds_listing.specs.declared.names.RegisterNames.TheVariants.{Numbers}
-use Rattle.ds_words.specs.Sets.{holds}
+use Rattle.ds_words.specs.Sets.{has_process}
 use Rattle.ds_words.specs.declared.processes.Processes.{Processes}
 use Rattle.ds_words.specs.declared.view.Only.{Only}
 use Rattle.ds_words.specs.declared.view.Only.TheVariants.{End, Calls, Denials, Switches, Units}
@@ -32,7 +32,7 @@ shows_turn v began = nat_le v.from began && is_before v.to began
 -- whether a process is among those that are named; where none is, each is
 abbrev pub is_named : Option Processes → ℕ → Bool
 is_named None p = true
-is_named (Some named) p = holds named p
+is_named (Some named) p = has_process named p
 
 -- whether a process is told of
 abbrev pub shows_process : View → ℕ → Bool

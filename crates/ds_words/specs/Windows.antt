@@ -24,8 +24,8 @@ abbrev pub digits_of : ℕ → ℕ → Text → Option ℕ
 digits_of base most text = if nat_le 1 (length text) && nat_le (length text) most then digits_from base 4294967295 0 text else None
 
 -- an address: one to eight hexadecimal digits, with 0x before them or without
-abbrev pub address_of : Text → Option ℕ
-address_of text = if bytes_eq (take 2 text) (codes "0x") then digits_of 16 8 (drop 2 text) else digits_of 16 8 text
+abbrev pub window_address : Text → Option ℕ
+window_address text = if bytes_eq (take 2 text) (codes "0x") then digits_of 16 8 (drop 2 text) else digits_of 16 8 text
 
 -- these numbers as a window, where all three are there
 abbrev pub window_by : Option ℕ → Option ℕ → Option ℕ → Option Window
@@ -38,7 +38,7 @@ is_colon c = c == 58
 -- P:ADDRESS:COUNT as numbers: its parts stand around the first colon, and the next
 abbrev pub written_window : Text → Option Window
 written_window text =
-    window_by (digits_of 10 10 (before_first is_colon text)) (address_of (before_first is_colon (after_first is_colon text)))
+    window_by (digits_of 10 10 (before_first is_colon text)) (window_address (before_first is_colon (after_first is_colon text)))
     (digits_of 10 10 (after_first is_colon (after_first is_colon text)))
 
 -- a text writes a window that there may be

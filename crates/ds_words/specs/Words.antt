@@ -12,7 +12,7 @@ use Rattle.ds_listing.specs.declared.names.RegisterNames.{RegisterNames}
 use Rattle.ds_listing.specs.declared.names.RegisterNames.TheVariants.{Common, Numbers}
 use Rattle.ds_words.specs.declared.view.View.{View}
 use Rattle.ds_words.specs.declared.processes.Processes.{Processes}
-use Rattle.ds_words.specs.Sets.{processes_of}
+use Rattle.ds_words.specs.Sets.{processes_numbered}
 use Rattle.ds_words.specs.declared.spans.Span.{Span}
 use Rattle.ds_words.specs.declared.bare_view.BareOnly.{BareOnly}
 use Rattle.ds_words.specs.declared.bare_view.BareOnly.TheVariants as bare_only
@@ -284,7 +284,7 @@ AreNumbers bits (text ∷ texts) (n ∷ rest) = IsNumber bits (Some text) n × A
 pub record WriteProcesses (texts : List Text) (processes : Processes) : Type 0 where
   pub numbers : List ℕ
   pub written : AreNumbers 32 texts numbers
-  pub are : processes ≡ processes_of numbers
+  pub are : processes ≡ processes_numbered numbers
 
 -- the processes that are named: those whose numbers the texts write, where there are texts
 abbrev pub NamesProcesses : Option (List Text) → Option Processes → Type 0

@@ -1,6 +1,7 @@
 //! Which instructions of a run on the bare machine are told, and what the end tells.
 ghost use Rattle.std.specs.Prelude.{◌≡◌};
-ghost use Rattle.ds_words.specs.BareViews.{IsWhole, reaches};
+ghost use Rattle.ds_words.specs.BareViews.{reaches};
+ghost use Rattle.ds_words.specs.Inner.BareViews.{IsWhole};
 
 use crate::spans::Spans;
 use crate::view::is_before;

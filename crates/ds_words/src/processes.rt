@@ -1,6 +1,7 @@
 //! A set of processes, by their numbers.
 ghost use Rattle.std.specs.Prelude.{◌≡◌, ℕ, List};
-ghost use Rattle.ds_words.specs.Sets.{holds, is_among, no_processes, processes_of, with_process};
+ghost use Rattle.ds_words.specs.Sets.{has_process, no_processes, processes_numbered, joined_process};
+ghost use Rattle.ds_words.specs.Inner.Sets.{is_among};
 
 /// The places for marks: that of process p is p, and no process has the first.
 const PLACES: usize = 101;
@@ -24,7 +25,7 @@ impl Processes {
 
     /// These, and the process of this number. Where no process can have the number, it is these.
     pub fn with(mut self, process: u32) -> Processes
-        ensures { result ≡ with_process self process }
+        ensures { result ≡ joined_process self process }
     {
         let place = process as usize;
         if place < PLACES {
@@ -36,8 +37,8 @@ impl Processes {
     /// Whether a process is among them.
     #[tactic(auto, using(crate::proofs::Among::held))]
     pub fn contains(&self, process: u32) -> bool
-        ensures value { result ≡ holds self.now process }
-        ensures among { (numbers : List ℕ) → self.now ≡ processes_of numbers
+        ensures value { result ≡ has_process self.now process }
+        ensures among { (numbers : List ℕ) → self.now ≡ processes_numbered numbers
             → result ≡ is_among numbers process }
     {
         self.marks.get(process as usize).copied().unwrap_or(false)

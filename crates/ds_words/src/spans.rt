@@ -4,7 +4,7 @@ ghost use Rattle.std.specs.Prelude.{◌≡◌, ◌≤◌, ◌+◌, ◌++◌, ◌
 ghost use Rattle.std.specs.List.{All};
 ghost use Rattle.ds_words.specs.Spans.{IsSpan, WriteSpans, WritesSpan, spans_in, written_span};
 
-use crate::windows::{address_of, digits_of};
+use crate::windows::{digits_of, window_address};
 
 /// Words of memory.
 #[derive(Clone, Copy, Debug, PartialEq, Eq)]
@@ -73,7 +73,7 @@ fn written_span(text: &str) -> Option<Span>
 {
     let (address, count) = text.split_once(':')?;
     Some(Span {
-        address: address_of(address.as_bytes())?,
+        address: window_address(address.as_bytes())?,
         count: digits_of(10, 10, count.as_bytes())?,
     })
 }

@@ -1,7 +1,7 @@
 //! Words of a process's memory that are wanted at the end of a run, and the texts that write them.
 ghost use Rattle.std.specs.Prelude.{◌≡◌, ◌≤◌, ◌+◌, ◌++◌, ◌∷◌, ◌↔◌, [], IfSome, IsTrue, List, None, map};
 ghost use Rattle.std.specs.List.{All};
-ghost use Rattle.ds_words.specs.Windows.{IsWindow, WriteWindows, WritesWindow, address_of, digits_of, windows_in, written_window};
+ghost use Rattle.ds_words.specs.Windows.{IsWindow, WriteWindows, WritesWindow, window_address, digits_of, windows_in, written_window};
 
 use ds_word::number_of_digits;
 
@@ -78,8 +78,8 @@ pub(crate) fn digits_of(base: u64, most: usize, text: &[u8]) -> Option<u32>
 }
 
 /// The address that a text writes: one to eight hexadecimal digits, with `0x` before them or without.
-pub(crate) fn address_of(text: &[u8]) -> Option<u32>
-    ensures { result ≡ address_of text.now }
+pub(crate) fn window_address(text: &[u8]) -> Option<u32>
+    ensures { result ≡ window_address text.now }
 {
     match text.strip_prefix(b"0x".as_slice()) {
         Some(digits) => digits_of(16, 8, digits),
@@ -95,7 +95,7 @@ fn written_window(text: &str) -> Option<Window>
     let (address, count) = rest.split_once(':')?;
     Some(Window {
         process: digits_of(10, 10, process.as_bytes())?,
-        address: address_of(address.as_bytes())?,
+        address: window_address(address.as_bytes())?,
         count: digits_of(10, 10, count.as_bytes())?,
     })
 }

@@ -75,6 +75,6 @@ fn tell<W: Write>(file: &str, number: u64, text: &str, came: &str, out: &mut W) 
 
 /// What stands before a character and after it; nothing after it where it is missing.
 pub fn cut<'a>(text: &'a str, at: &str) -> (&'a str, &'a str) {
-    let (before, behind) = text.split_once(at).unwrap_or((text, ""));
-    (before.trim(), behind.trim())
+    let (before, afterwards) = text.split_once(at).unwrap_or((text, ""));
+    (before.trim(), afterwards.trim())
 }

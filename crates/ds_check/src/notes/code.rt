@@ -2,7 +2,7 @@
 ghost use Rattle.std.specs.Prelude.{◌≡◌, ◌≤◌, ◌++◌, IfOk, OnOk, None, length, take, drop};
 ghost use Rattle.ds_listing.specs.Listing.{rows_of};
 ghost use Rattle.ds_listing.specs.Sources.{word_of_bytes};
-ghost use Rattle.ds_check.specs.CodeNotes.{after, instruction_in, line_notes, notes_after};
+ghost use Rattle.ds_check.specs.CodeNotes.{last_done, instruction_in, line_notes, notes_after};
 
 use crate::notes::instruction::{PlacedNote, WordPlace, jumps, push_instruction};
 use ds_asm::{Image, first_line, source_line};
@@ -32,7 +32,7 @@ fn push_notes(notes: &mut Vec<PlacedNote>, text: &[u8], image: &[u8]) -> Result<
     let mut rest = text;
     let mut left = image;
     while !rest.is_empty() {
-        let (line, behind) = first_line(rest);
+        let (line, afterwards) = first_line(rest);
         let (bytes, further) = cut(left, source_line(line).size);
         line_count += 1;
         let at = WordPlace {
@@ -40,10 +40,10 @@ fn push_notes(notes: &mut Vec<PlacedNote>, text: &[u8], image: &[u8]) -> Result<
             offset,
         };
         push_line(notes, at, before, bytes)?;
-        before = after(before, bytes);
+        before = last_done(before, bytes);
         offset += bytes.len() as u32;
         left = further;
-        rest = behind;
+        rest = afterwards;
     }
     Ok(())
 }
@@ -51,7 +51,7 @@ fn push_notes(notes: &mut Vec<PlacedNote>, text: &[u8], image: &[u8]) -> Result<
 /// So many bytes, or all where they are fewer, and what stands after them.
 fn cut(bytes: &[u8], size: u64) -> (&[u8], &[u8])
     ensures front { result.0.now ≡ take size bytes.now }
-    ensures behind { result.1.now ≡ drop size bytes.now }
+    ensures afterwards { result.1.now ≡ drop size bytes.now }
 {
     if size < bytes.len() as u64 {
         bytes.split_at(size as usize)
@@ -93,8 +93,8 @@ fn word_of(a: u8, b: u8, c: u8, d: u8) -> u32
 }
 
 /// The instruction that is done right before those of the next line.
-fn after(before: Option<Instr>, bytes: &[u8]) -> Option<Instr>
-    ensures { result ≡ after before bytes.now }
+fn last_done(before: Option<Instr>, bytes: &[u8]) -> Option<Instr>
+    ensures { result ≡ last_done before bytes.now }
 {
     if bytes.is_empty() {
         return before;

@@ -1,6 +1,6 @@
 //! What is worth a look in an input.
 ghost use Rattle.std.specs.Prelude.{◌≡◌, ◌++◌, OnOk, IfOk, slice_get};
-ghost use Rattle.ds_check.specs.InputNotes.{crowd, crowds, has_time};
+ghost use Rattle.ds_check.specs.InputNotes.{crowd, crowds, comes_then};
 
 use ds_policy::{Character, Events, OutOfMemory};
 use std::alloc::{AllocError, Global};
@@ -30,7 +30,7 @@ fn push_crowds(found: &mut Vec<Crowd>, mut events: Events) -> Result<(), AllocEr
 {
     let mut left = events.characters().len();
     while let Some(character) = events.take_character() {
-        if !has_time(character.time, events.characters().first()) {
+        if !comes_then(character.time, events.characters().first()) {
             push_crowd(found, character.time, left - events.characters().len())?;
             left = events.characters().len();
         }
@@ -39,8 +39,8 @@ fn push_crowds(found: &mut Vec<Crowd>, mut events: Events) -> Result<(), AllocEr
 }
 
 /// Whether a character, if there is one, has this time.
-fn has_time(time: u64, character: Option<Character>) -> bool
-    ensures { result ≡ has_time time character }
+fn comes_then(time: u64, character: Option<Character>) -> bool
+    ensures { result ≡ comes_then time character }
 {
     match character {
         Some(character) => character.time == time,

@@ -1,6 +1,6 @@
 //! What is worth a look about one instruction, after the one that is done right before it.
 ghost use Rattle.std.specs.Prelude.{◌≡◌, ◌++◌, ◌∷◌, [], OnOk};
-ghost use Rattle.ds_check.specs.CodeNotes.{differing, follows_branch, instruction_notes, is_kernel_register, is_register, jumps, loading, merges, operand_notes, other_than_0, late_operand};
+ghost use Rattle.ds_check.specs.CodeNotes.{differing, follows_branch, instruction_notes, is_kernel_register, is_register, jumps, register_loading, merges, operand_notes, other_than_0, late_operand};
 
 use ds_isa::{Instr, access_size, is_branch, reads, writes};
 use std::alloc::AllocError;
@@ -43,7 +43,7 @@ pub(crate) fn push_instruction(
         (notes.new.items ≡ notes.old.items ++ instruction_notes at before instr.now) }
 {
     let sources = reads(instr);
-    let loading = loading(before);
+    let loading = register_loading(before);
     if follows_branch(before) && is_branch(instr) {
         push(notes, at, CodeNote::BranchInSlot)?;
     }
@@ -108,8 +108,8 @@ fn differing(first: Option<u8>, second: Option<u8>) -> Option<u8>
 }
 
 /// The register that the next instruction must not read, where the one before is a load.
-fn loading(before: Option<Instr>) -> Option<u8>
-    ensures { result ≡ loading before }
+fn register_loading(before: Option<Instr>) -> Option<u8>
+    ensures { result ≡ register_loading before }
 {
     let load = before?;
     match access_size(&load) {

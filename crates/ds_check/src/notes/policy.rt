@@ -5,7 +5,7 @@ ghost use Rattle.ds_policy.specs.FirstTable.{table_of};
 ghost use Rattle.ds_policy.specs.Grants.{has_right, is_some_right, is_write};
 ghost use Rattle.ds_policy.specs.Pages.{names, page_address, entry_at};
 ghost use Rattle.ds_policy.specs.PolicyParts.{sources_of};
-ghost use Rattle.ds_check.specs.PolicyNotes.{gives_write, image_of, is_past_end, names_page, page_notes, pages_notes, policy_notes, process_notes, processes_notes, source_is_past_end};
+ghost use Rattle.ds_check.specs.PolicyNotes.{gives_write, image_by_name, is_past_end, names_page, page_notes, pages_notes, policy_notes, process_notes, processes_notes, source_is_past_end};
 
 use ds_asm::Image;
 use ds_policy::{
@@ -142,23 +142,23 @@ fn is_past_end(names: &[Text<64>], images: &[Image], source: &Option<Source>) ->
     let Some(source) = source else {
         return false;
     };
-    match image_of(names, images, source.name.as_str()) {
+    match image_by_name(names, images, source.name.as_str()) {
         Some(image) => image.len() <= 4096 * source.part as usize,
         None => false,
     }
 }
 
 /// The image of the source of this name, if there is one.
-fn image_of<'a>(names: &[Text<64>], images: &'a [Image], name: &str) -> Option<&'a Image>
-    ensures { option_map (λ i. i.now) result ≡ image_of names.now images.now name.now }
+fn image_by_name<'a>(names: &[Text<64>], images: &'a [Image], name: &str) -> Option<&'a Image>
+    ensures { option_map (λ i. i.now) result ≡ image_by_name names.now images.now name.now }
 {
-    match place_of(names, name) {
+    match place_of_name(names, name) {
         Some(place) => images.get(place),
         None => None,
     }
 }
 
-fn place_of(names: &[Text<64>], name: &str) -> Option<usize>
+fn place_of_name(names: &[Text<64>], name: &str) -> Option<usize>
     ensures { result ≡ position (λ n. bytes_eq n name.now) names.now }
 {
     names.iter().position(|n| n.as_str() == name)

@@ -1,7 +1,7 @@
 //! Notes as text, a line for each.
 ghost use Rattle.std.specs.Prelude.{◌≡◌, ◌++◌, IfOk, OnOk, decimal};
 ghost use Rattle.std.specs.List.{flat_map};
-ghost use Rattle.ds_check.specs.NoteTexts.{loses, code_line, code_notes_text, code_text, come_in, crowd_line, crowds_text, comes_at, named_line, page_line, policy_line, policy_notes_text, process_line, register_text};
+ghost use Rattle.ds_check.specs.NoteTexts.{loses, code_line, code_notes_text, code_note_text, come_in, crowd_line, crowds_text, comes_at_text, named_line, page_line, policy_line, policy_notes_text, process_note_line, register_text};
 
 use crate::notes::input::Crowd;
 use crate::notes::instruction::{CodeNote, PlacedNote};
@@ -35,7 +35,7 @@ fn push_code_line(sheet: &mut Vec<u8>, name: &str, note: &PlacedNote) -> Result<
 }
 
 fn push_code_text(sheet: &mut Vec<u8>, note: CodeNote) -> Result<(), AllocError>
-    ensures { OnOk result (sheet.new.items ≡ sheet.old.items ++ code_text note) }
+    ensures { OnOk result (sheet.new.items ≡ sheet.old.items ++ code_note_text note) }
 {
     match note {
         CodeNote::BranchInSlot => sheet.extend_from_slice(IN_SLOT),
@@ -105,7 +105,7 @@ const UNUSED: &[u8] = b": no rule names it\n";
 const WRITABLE: &[u8] = b": it has a part of a source, and a rule lets a process write it\n";
 
 fn push_process(sheet: &mut Vec<u8>, process: u32, what: &[u8]) -> Result<(), AllocError>
-    ensures { OnOk result (sheet.new.items ≡ sheet.old.items ++ process_line process what.now) }
+    ensures { OnOk result (sheet.new.items ≡ sheet.old.items ++ process_note_line process what.now) }
 {
     sheet.extend_from_slice(b"process ")?;
     push_decimal(sheet, u64::from(process))?;
@@ -155,9 +155,9 @@ fn push_crowd(sheet: &mut Vec<u8>, crowd: &Crowd) -> Result<(), AllocError>
     push_loses(sheet, crowd.count)
 }
 
-#[tactic(auto, unfolding(crate::specs::NoteTexts::comes_at))]
+#[tactic(auto, unfolding(crate::specs::NoteTexts::comes_at_text))]
 fn push_comes_at(sheet: &mut Vec<u8>, time: u64) -> Result<(), AllocError>
-    ensures { OnOk result (sheet.new.items ≡ sheet.old.items ++ comes_at time) }
+    ensures { OnOk result (sheet.new.items ≡ sheet.old.items ++ comes_at_text time) }
 {
     sheet.extend_from_slice(b"input, time ")?;
     push_number(sheet, time, b": ")

@@ -5,11 +5,12 @@ ghost use Rattle.ds_dev.specs.Bus.{load, store};
 ghost use Rattle.ds_amap.specs.Map.{translate};
 ghost use Rattle.ds_cp0.specs.System.{asid_of};
 ghost use Rattle.ds_core.specs.Core.{core_at_vector};
-ghost use Rattle.ds_core.specs.Access.{mode_of, reached, decoded, code_of, refusal, aligned_load, kept, aligned_store, store_answered};
+ghost use Rattle.ds_core.specs.Access.{mode_of, reached, code_of, access_exception, aligned_load, kept_word, aligned_store, store_answered};
+ghost use Rattle.ds_core.specs.Inner.Access.{decoded};
 
 use super::Core;
 use crate::event::Event;
-use ds_amap::{Access, Fault, Mode, Physical, reach, recalled};
+use ds_amap::{Fault, Kind, Mode, Physical, reach, recalled};
 use ds_cp0::{Cp0, Exception, ExceptionCode};
 use ds_dev::{Bus, BusError};
 use ds_isa::{Instr, Size, decode};
@@ -92,8 +93,8 @@ fn fetch_elsewhere(bus: &mut Bus, place: u32) -> Result<Instr, BusError>
 
 /// The aligned word that holds a place in memory, of which a store changes a part; 0 elsewhere.
 #[inline(always)]
-pub(super) fn kept(bus: &mut Bus, place: u32) -> u32
-    ensures value { result ≡ kept bus.old place }
+pub(super) fn kept_word(bus: &mut Bus, place: u32) -> u32
+    ensures value { result ≡ kept_word bus.old place }
     ensures same { bus.new ≡ bus.old }
 {
     match bus.load(place, Size::Part) {
@@ -133,7 +134,7 @@ impl<L: Lookaside> Core<L> {
     #[inline(always)]
     pub(super) fn reach(
         &mut self,
-        access: Access,
+        access: Kind,
         size: Size,
         address: u32,
     ) -> Result<Physical, Fault>
@@ -152,7 +153,7 @@ impl<L: Lookaside> Core<L> {
     /// The same for an address whose page the buffer doesn't remember. It stays a call.
     #[cold]
     #[inline(never)]
-    fn search(&mut self, access: Access, address: u32) -> Result<Physical, Fault>
+    fn search(&mut self, access: Kind, address: u32) -> Result<Physical, Fault>
         ensures value { result
             ≡ translate self.old.entries (asid_of self.old.system) (mode_of self.old.system)
             access address }
@@ -166,9 +167,9 @@ impl<L: Lookaside> Core<L> {
     /// Enters the exception of an access that has no physical address.
     #[cold]
     #[inline(never)]
-    pub(super) fn refuse(&mut self, access: Access, address: u32, fault: Fault) -> Event
+    pub(super) fn refuse(&mut self, access: Kind, address: u32, fault: Fault) -> Event
         ensures event { result ≡ Event.Raised (code_of fault (is_store access)) }
-        ensures core { self.new ≡ core_at_vector self.old (refusal self.old access address fault) }
+        ensures core { self.new ≡ core_at_vector self.old (access_exception self.old access address fault) }
     {
         self.raise(Exception {
             code: code_of(fault, access.is_store()),

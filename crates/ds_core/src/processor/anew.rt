@@ -2,12 +2,12 @@
 ghost use Rattle.std.specs.Prelude.{◌≡◌};
 ghost use Rattle.ds_cp0.specs.System.{is_pending};
 ghost use Rattle.ds_dev.specs.Bus.{lines};
-ghost use Rattle.ds_core.specs.Effect.{instruction, step};
+ghost use Rattle.ds_core.specs.Effect.{instruction_step, step};
 
 use super::Core;
 use super::access::fetch;
 use crate::event::Event;
-use ds_amap::{Access, Physical};
+use ds_amap::{Kind, Physical};
 use ds_cp0::ExceptionCode;
 use ds_dev::Bus;
 use ds_isa::Size;
@@ -39,7 +39,7 @@ impl<L: Lookaside> Core<L> {
         if self.is_interrupted(bus) {
             return self.trap(ExceptionCode::Interrupt);
         }
-        let event = self.instruction(bus);
+        let event = self.instruction_step(bus);
         self.tlb.tick();
         event
     }
@@ -54,14 +54,14 @@ impl<L: Lookaside> Core<L> {
 
     /// Does the instruction at `pc`.
     #[inline(always)]
-    fn instruction(&mut self, bus: &mut Bus) -> Event
+    fn instruction_step(&mut self, bus: &mut Bus) -> Event
         requires { L.SLOTS ≡ 64 }
         ensures { (record { event = result; core = self.new; bus = bus.new })
-            ≡ instruction self.old bus.old }
+            ≡ instruction_step self.old bus.old }
     {
-        let place = match self.reach(Access::Fetch, Size::Word, self.pc) {
+        let place = match self.reach(Kind::Fetch, Size::Word, self.pc) {
             Ok(Physical(place)) => place,
-            Err(fault) => return self.refuse(Access::Fetch, self.pc, fault),
+            Err(fault) => return self.refuse(Kind::Fetch, self.pc, fault),
         };
         match fetch(bus, place) {
             Ok(instr) => self.execute(instr, bus),

@@ -2,7 +2,7 @@
 ghost use Rattle.std.specs.Prelude.{◌≡◌, ◌<◌};
 ghost use Rattle.ds_tlb.specs.Words.{entry_of};
 ghost use Rattle.ds_core.specs.Core.{core_at_vector};
-ghost use Rattle.ds_core.specs.Coprocessor.{is_usable, unusable, unusable_exception, requests, system_reads, indexed, usable, unit_of, privileged};
+ghost use Rattle.ds_core.specs.Coprocessor.{is_coprocessor_usable, unusable, unusable_exception, requests, system_reads, index_slot, usable, unit_of, privileged};
 
 use super::Core;
 use crate::event::Event;
@@ -30,8 +30,8 @@ fn entry_of(cp0: &Cp0) -> Entry
 }
 
 /// The slot that Index names.
-fn indexed(cp0: &Cp0) -> usize
-    ensures value { result ≡ indexed cp0.now }
+fn index_slot(cp0: &Cp0) -> usize
+    ensures value { result ≡ index_slot cp0.now }
     ensures range { result < 64 }
 {
     ((cp0.read(register::INDEX) >> 8) & 0x3f) as usize
@@ -50,8 +50,8 @@ fn unit_of(instr: Instr) -> u8
 impl<L: Lookaside> Core<L> {
     /// Whether a coprocessor may be used: coprocessor 0 in kernel mode, else each by its bit in
     /// Status.
-    pub fn is_usable(&self, unit: u8) -> bool
-        ensures { result ≡ is_usable self.now unit }
+    pub fn is_coprocessor_usable(&self, unit: u8) -> bool
+        ensures { result ≡ is_coprocessor_usable self.now unit }
     {
         let enabled = (self.cp0.read(register::STATUS) >> (28 + unit % 4)) & 1 == 1;
         unit % 4 == 0 && !self.cp0.user() || enabled
@@ -101,13 +101,13 @@ impl<L: Lookaside> Core<L> {
                 self.retire_settled()
             }
             Instr::Tlbr => {
-                let entry = self.tlb.read(indexed(&self.cp0));
+                let entry = self.tlb.read(index_slot(&self.cp0));
                 self.cp0.write(register::ENTRY_HI, entry.hi_word());
                 self.cp0.write(register::ENTRY_LO, entry.lo_word());
                 self.retire_settled()
             }
             Instr::Tlbwi => {
-                self.tlb.write(indexed(&self.cp0), entry_of(&self.cp0));
+                self.tlb.write(index_slot(&self.cp0), entry_of(&self.cp0));
                 self.retire_settled()
             }
             Instr::Tlbwr => {
@@ -136,7 +136,7 @@ impl<L: Lookaside> Core<L> {
             ≡ privileged self.old bus.now instr }
     {
         let unit = unit_of(instr);
-        if self.is_usable(unit) {
+        if self.is_coprocessor_usable(unit) {
             self.use_coprocessor(instr, bus)
         } else {
             self.unusable(unit)

@@ -1,9 +1,10 @@
 //! Where the processor goes on: after an instruction, in a delay slot, or out of the program.
 ghost use Rattle.std.specs.Prelude.{◌≡◌};
 ghost use Rattle.ds_isa.specs.Registers.{settled, written, loaded};
-ghost use Rattle.ds_isa.specs.Meaning.{behind_slot, branch_target, jump_target, written_or_trap};
+ghost use Rattle.ds_isa.specs.Meaning.{past_slot, branch_target, jump_target, written_or_trap};
 ghost use Rattle.ds_dev.specs.Bus.{BusState};
-ghost use Rattle.ds_core.specs.Core.{exception, core_at_vector, core_at_next, with_link, branched};
+ghost use Rattle.ds_core.specs.Core.{exception, core_at_vector, core_at_next, branched};
+ghost use Rattle.ds_core.specs.Inner.Core.{with_link};
 ghost use Rattle.ds_core.specs.Effect.{effect};
 
 use super::Core;
@@ -16,7 +17,7 @@ use ds_word::{sign16, wrapping_sum};
 /// The address after a branch and its slot.
 #[inline(always)]
 pub fn after_slot(pc: u32) -> u32
-    ensures { result ≡ behind_slot pc }
+    ensures { result ≡ past_slot pc }
 {
     wrapping_sum(pc, 8)
 }
@@ -177,7 +178,7 @@ impl<L: Lookaside> Core<L> {
     pub(super) fn link_and_branch(&mut self, taken: bool, immediate: u16) -> Event
         ensures { (bus : BusState) → (record { event = result; core = self.new; bus = bus })
             ≡ branched self.old.slot self.old bus
-            (written self.old.registers 31 (behind_slot self.old.pc))
+            (written self.old.registers 31 (past_slot self.old.pc))
             (branch_target taken self.old.pc immediate) }
     {
         self.branch_to(Some(31), branch_target(taken, self.pc, immediate))

@@ -1,7 +1,7 @@
 //! The general registers, and the load that is late (Kane and Heinrich, chapter 1, load delay).
 ghost use Rattle.std.specs.Prelude.{◌≡◌};
 ghost use Rattle.ds_isa.specs.Registers.{read, written, loaded};
-ghost use Rattle.ds_isa.specs.Meaning.{newest, address_of};
+ghost use Rattle.ds_isa.specs.Meaning.{newest, access_address};
 
 use super::Core;
 use ds_isa::Late;
@@ -31,8 +31,8 @@ impl<L: Lookaside> Core<L> {
 
     /// The address of a load or a store.
     #[inline(always)]
-    pub(super) fn address_of(&self, base: u8, immediate: u16) -> u32
-        ensures { result ≡ address_of self.now.registers base immediate }
+    pub(super) fn access_address(&self, base: u8, immediate: u16) -> u32
+        ensures { result ≡ access_address self.now.registers base immediate }
     {
         wrapping_sum(self.read(base), sign16(immediate))
     }

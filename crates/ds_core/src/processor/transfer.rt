@@ -4,9 +4,9 @@ ghost use Rattle.ds_isa.specs.Meaning.{meaning};
 ghost use Rattle.ds_core.specs.Effect.{executed};
 
 use super::Core;
-use super::access::{kept, load_aligned};
+use super::access::{kept_word, load_aligned};
 use crate::event::Event;
-use ds_amap::{Access, Physical};
+use ds_amap::{Kind, Physical};
 use ds_cp0::ExceptionCode;
 use ds_dev::Bus;
 use ds_isa::{Instr, Size};
@@ -23,10 +23,10 @@ impl<L: Lookaside> Core<L> {
         ensures { (record { event = result; core = self.new; bus = bus.new })
             ≡ executed self.old bus.old (Instr.Lb rt rs immediate) }
     {
-        let address = self.address_of(rs, immediate);
-        let place = match self.reach(Access::Load, Size::Byte, address) {
+        let address = self.access_address(rs, immediate);
+        let place = match self.reach(Kind::Load, Size::Byte, address) {
             Ok(Physical(place)) => place,
-            Err(fault) => return self.refuse(Access::Load, address, fault),
+            Err(fault) => return self.refuse(Kind::Load, address, fault),
         };
         match load_aligned(bus, place, Size::Byte) {
             Ok(word) => self.retire_load(rt, byte_signed(word, address % 4)),
@@ -46,10 +46,10 @@ impl<L: Lookaside> Core<L> {
         ensures { (record { event = result; core = self.new; bus = bus.new })
             ≡ executed self.old bus.old (Instr.Lbu rt rs immediate) }
     {
-        let address = self.address_of(rs, immediate);
-        let place = match self.reach(Access::Load, Size::Byte, address) {
+        let address = self.access_address(rs, immediate);
+        let place = match self.reach(Kind::Load, Size::Byte, address) {
             Ok(Physical(place)) => place,
-            Err(fault) => return self.refuse(Access::Load, address, fault),
+            Err(fault) => return self.refuse(Kind::Load, address, fault),
         };
         match load_aligned(bus, place, Size::Byte) {
             Ok(word) => self.retire_load(rt, byte_unsigned(word, address % 4)),
@@ -63,10 +63,10 @@ impl<L: Lookaside> Core<L> {
         ensures { (record { event = result; core = self.new; bus = bus.new })
             ≡ executed self.old bus.old (Instr.Lh rt rs immediate) }
     {
-        let address = self.address_of(rs, immediate);
-        let place = match self.reach(Access::Load, Size::Half, address) {
+        let address = self.access_address(rs, immediate);
+        let place = match self.reach(Kind::Load, Size::Half, address) {
             Ok(Physical(place)) => place,
-            Err(fault) => return self.refuse(Access::Load, address, fault),
+            Err(fault) => return self.refuse(Kind::Load, address, fault),
         };
         match load_aligned(bus, place, Size::Half) {
             Ok(word) => self.retire_load(rt, half_signed(word, address % 4)),
@@ -86,10 +86,10 @@ impl<L: Lookaside> Core<L> {
         ensures { (record { event = result; core = self.new; bus = bus.new })
             ≡ executed self.old bus.old (Instr.Lhu rt rs immediate) }
     {
-        let address = self.address_of(rs, immediate);
-        let place = match self.reach(Access::Load, Size::Half, address) {
+        let address = self.access_address(rs, immediate);
+        let place = match self.reach(Kind::Load, Size::Half, address) {
             Ok(Physical(place)) => place,
-            Err(fault) => return self.refuse(Access::Load, address, fault),
+            Err(fault) => return self.refuse(Kind::Load, address, fault),
         };
         match load_aligned(bus, place, Size::Half) {
             Ok(word) => self.retire_load(rt, half_unsigned(word, address % 4)),
@@ -103,10 +103,10 @@ impl<L: Lookaside> Core<L> {
         ensures { (record { event = result; core = self.new; bus = bus.new })
             ≡ executed self.old bus.old (Instr.Lwl rt rs immediate) }
     {
-        let address = self.address_of(rs, immediate);
-        let place = match self.reach(Access::Load, Size::Part, address) {
+        let address = self.access_address(rs, immediate);
+        let place = match self.reach(Kind::Load, Size::Part, address) {
             Ok(Physical(place)) => place,
-            Err(fault) => return self.refuse(Access::Load, address, fault),
+            Err(fault) => return self.refuse(Kind::Load, address, fault),
         };
         match load_aligned(bus, place, Size::Part) {
             Ok(word) => self.retire_load(rt, merge_left(word, self.newest(rt), address % 4)),
@@ -120,10 +120,10 @@ impl<L: Lookaside> Core<L> {
         ensures { (record { event = result; core = self.new; bus = bus.new })
             ≡ executed self.old bus.old (Instr.Lw rt rs immediate) }
     {
-        let address = self.address_of(rs, immediate);
-        let place = match self.reach(Access::Load, Size::Word, address) {
+        let address = self.access_address(rs, immediate);
+        let place = match self.reach(Kind::Load, Size::Word, address) {
             Ok(Physical(place)) => place,
-            Err(fault) => return self.refuse(Access::Load, address, fault),
+            Err(fault) => return self.refuse(Kind::Load, address, fault),
         };
         match load_aligned(bus, place, Size::Word) {
             Ok(word) => self.retire_load(rt, word),
@@ -137,10 +137,10 @@ impl<L: Lookaside> Core<L> {
         ensures { (record { event = result; core = self.new; bus = bus.new })
             ≡ executed self.old bus.old (Instr.Lwr rt rs immediate) }
     {
-        let address = self.address_of(rs, immediate);
-        let place = match self.reach(Access::Load, Size::Part, address) {
+        let address = self.access_address(rs, immediate);
+        let place = match self.reach(Kind::Load, Size::Part, address) {
             Ok(Physical(place)) => place,
-            Err(fault) => return self.refuse(Access::Load, address, fault),
+            Err(fault) => return self.refuse(Kind::Load, address, fault),
         };
         match load_aligned(bus, place, Size::Part) {
             Ok(word) => self.retire_load(rt, merge_right(word, self.newest(rt), address % 4)),
@@ -154,10 +154,10 @@ impl<L: Lookaside> Core<L> {
         ensures { (record { event = result; core = self.new; bus = bus.new })
             ≡ executed self.old bus.old (Instr.Sb rt rs immediate) }
     {
-        let address = self.address_of(rs, immediate);
-        match self.reach(Access::Store, Size::Byte, address) {
+        let address = self.access_address(rs, immediate);
+        match self.reach(Kind::Store, Size::Byte, address) {
             Ok(Physical(place)) => {
-                let word = kept(bus, place);
+                let word = kept_word(bus, place);
                 self.retire_store(
                     place,
                     Size::Byte,
@@ -165,7 +165,7 @@ impl<L: Lookaside> Core<L> {
                     bus,
                 )
             }
-            Err(fault) => self.refuse(Access::Store, address, fault),
+            Err(fault) => self.refuse(Kind::Store, address, fault),
         }
     }
 
@@ -175,10 +175,10 @@ impl<L: Lookaside> Core<L> {
         ensures { (record { event = result; core = self.new; bus = bus.new })
             ≡ executed self.old bus.old (Instr.Sh rt rs immediate) }
     {
-        let address = self.address_of(rs, immediate);
-        match self.reach(Access::Store, Size::Half, address) {
+        let address = self.access_address(rs, immediate);
+        match self.reach(Kind::Store, Size::Half, address) {
             Ok(Physical(place)) => {
-                let word = kept(bus, place);
+                let word = kept_word(bus, place);
                 self.retire_store(
                     place,
                     Size::Half,
@@ -186,7 +186,7 @@ impl<L: Lookaside> Core<L> {
                     bus,
                 )
             }
-            Err(fault) => self.refuse(Access::Store, address, fault),
+            Err(fault) => self.refuse(Kind::Store, address, fault),
         }
     }
 
@@ -196,10 +196,10 @@ impl<L: Lookaside> Core<L> {
         ensures { (record { event = result; core = self.new; bus = bus.new })
             ≡ executed self.old bus.old (Instr.Swl rt rs immediate) }
     {
-        let address = self.address_of(rs, immediate);
-        match self.reach(Access::Store, Size::Part, address) {
+        let address = self.access_address(rs, immediate);
+        match self.reach(Kind::Store, Size::Part, address) {
             Ok(Physical(place)) => {
-                let word = kept(bus, place);
+                let word = kept_word(bus, place);
                 self.retire_store(
                     place,
                     Size::Part,
@@ -207,7 +207,7 @@ impl<L: Lookaside> Core<L> {
                     bus,
                 )
             }
-            Err(fault) => self.refuse(Access::Store, address, fault),
+            Err(fault) => self.refuse(Kind::Store, address, fault),
         }
     }
 
@@ -217,10 +217,10 @@ impl<L: Lookaside> Core<L> {
         ensures { (record { event = result; core = self.new; bus = bus.new })
             ≡ executed self.old bus.old (Instr.Sw rt rs immediate) }
     {
-        let address = self.address_of(rs, immediate);
-        match self.reach(Access::Store, Size::Word, address) {
+        let address = self.access_address(rs, immediate);
+        match self.reach(Kind::Store, Size::Word, address) {
             Ok(Physical(place)) => { self.retire_store(place, Size::Word, self.read(rt), bus) }
-            Err(fault) => self.refuse(Access::Store, address, fault),
+            Err(fault) => self.refuse(Kind::Store, address, fault),
         }
     }
 
@@ -230,10 +230,10 @@ impl<L: Lookaside> Core<L> {
         ensures { (record { event = result; core = self.new; bus = bus.new })
             ≡ executed self.old bus.old (Instr.Swr rt rs immediate) }
     {
-        let address = self.address_of(rs, immediate);
-        match self.reach(Access::Store, Size::Part, address) {
+        let address = self.access_address(rs, immediate);
+        match self.reach(Kind::Store, Size::Part, address) {
             Ok(Physical(place)) => {
-                let word = kept(bus, place);
+                let word = kept_word(bus, place);
                 self.retire_store(
                     place,
                     Size::Part,
@@ -241,7 +241,7 @@ impl<L: Lookaside> Core<L> {
                     bus,
                 )
             }
-            Err(fault) => self.refuse(Access::Store, address, fault),
+            Err(fault) => self.refuse(Kind::Store, address, fault),
         }
     }
 }

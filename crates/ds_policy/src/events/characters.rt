@@ -42,7 +42,7 @@ pub struct Characters {
 impl Model for Characters {
     ghost use Rattle.std.specs.Prelude.{List, ◌≤◌, drop, length};
     ghost use Rattle.ds_policy.specs.declared.command.Character.{Character};
-    ghost use Rattle.ds_policy.specs.KeyLines.{characters_from, AreKeyLines};
+    ghost use Rattle.ds_policy.specs.Inner.KeyLines.{characters_from, AreKeyLines};
 
     ghost Value = { List Character };
 

@@ -1,6 +1,6 @@
 //! Numbers and bytes in digits.
 ghost use Rattle.std.specs.Prelude.{◌≡◌, ◌≤◌, length};
-ghost use Rattle.ds_policy.specs.InputNumbers.{decimal_of, address_of, pair_of, pairs_of, bytes_of};
+ghost use Rattle.ds_policy.specs.InputNumbers.{decimal_of, address_of, pair_of, pairs_of, written_bytes};
 
 use crate::events::keys::{Keys, MOST_KEYS};
 use ds_word::{digit_of, number_of_digits};
@@ -52,8 +52,8 @@ fn pairs_of(word: &[u8]) -> Option<Keys>
 }
 
 /// The bytes of 1 to 256 pairs of hexadecimal digits.
-pub(crate) fn bytes_of(word: &[u8]) -> Option<Keys>
-    ensures { result ≡ bytes_of word.now }
+pub(crate) fn written_bytes(word: &[u8]) -> Option<Keys>
+    ensures { result ≡ written_bytes word.now }
 {
     if word.len() >= 2 && word.len() <= 2 * MOST_KEYS {
         pairs_of(word)

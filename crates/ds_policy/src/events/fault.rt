@@ -1,6 +1,6 @@
 //! Why an input is refused.
 ghost use Rattle.std.specs.Prelude.{◌≡◌};
-ghost use Rattle.ds_policy.specs.InputText.{number_of};
+ghost use Rattle.ds_policy.specs.Inner.InputText.{events_fault_number};
 ghost use Rattle.ds_policy.specs.declared.events.fault.EventsFault.TheVariants.{Memory};
 
 use std::alloc::{AllocError, AllocFailed};
@@ -20,7 +20,7 @@ pub enum EventsFault {
 impl EventsFault {
     /// The refusal's number.
     pub fn number(&self) -> u32
-        ensures { result ≡ number_of self.now }
+        ensures { result ≡ events_fault_number self.now }
     {
         match self {
             EventsFault::InputFault(_) => 20,

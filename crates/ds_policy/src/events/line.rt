@@ -2,12 +2,12 @@
 ghost use Rattle.std.specs.Prelude.{◌≡◌, ◌≤◌, length, map, take, IfOk};
 ghost use Rattle.std.specs.List.{slice_split};
 ghost use Rattle.ds_policy.specs.PolicyParts.{page_named};
-ghost use Rattle.ds_policy.specs.InputLines.{words_of, process_of, line_of, right_of, place_of, granted, given, grant_of, entry_in, process_in, command_of, keys_of, event_of, event_in, event_at, timed_event_of};
+ghost use Rattle.ds_policy.specs.InputLines.{words_of, process_number_of, console_line_of, right_of, entry_place_of, grant_command, grant_with_give, grant_command_of, entry_in, process_in, command_of, keys_of, event_of, event_in, event_at, timed_event_of};
 
 use crate::command::Command;
 use crate::events::MOST_TICKS;
 use crate::events::cause::InputCause;
-use crate::events::digits::{address_of, bytes_of, decimal_of};
+use crate::events::digits::{address_of, decimal_of, written_bytes};
 use crate::events::event::{Event, TimedEvent};
 use crate::grant::{EntryPlace, Right};
 use crate::names::NamedPages;
@@ -76,8 +76,8 @@ fn keys_of(words: &[&[u8]]) -> Result<Event, InputCause>
 {
     match words {
         [l, digits] => {
-            let line = line_of(l).ok_or(InputCause::BadLine)?;
-            let keys = bytes_of(digits).ok_or(InputCause::BadBytes)?;
+            let line = console_line_of(l).ok_or(InputCause::BadLine)?;
+            let keys = written_bytes(digits).ok_or(InputCause::BadBytes)?;
             Ok(Event::Input { line, keys })
         }
         [] | [_] | [_, _, _, ..] => Err(InputCause::WordCount),
@@ -91,7 +91,7 @@ fn command_of(pages: &NamedPages<'_>, verb: &[u8], words: &[&[u8]]) -> Result<Co
     ensures { result ≡ command_of pages.now verb.now (map (λ w. w.now) words.now) }
 {
     if verb == b"grant".as_slice() {
-        grant_of(pages, words)
+        grant_command_of(pages, words)
     } else if verb == b"narrow".as_slice() {
         let EntryPlace { process, address } = entry_in(words)?;
         Ok(Command::Narrow { process, address })
@@ -112,21 +112,21 @@ fn command_of(pages: &NamedPages<'_>, verb: &[u8], words: &[&[u8]]) -> Result<Co
     }
 }
 
-#[tactic(auto, unfolding(crate::specs::InputLines::grant_of))]
-fn grant_of(pages: &NamedPages<'_>, words: &[&[u8]]) -> Result<Command, InputCause>
+#[tactic(auto, unfolding(crate::specs::InputLines::grant_command_of))]
+fn grant_command_of(pages: &NamedPages<'_>, words: &[&[u8]]) -> Result<Command, InputCause>
     requires { length pages.now ≤ 1024 }
-    ensures { result ≡ grant_of pages.now (map (λ w. w.now) words.now) }
+    ensures { result ≡ grant_command_of pages.now (map (λ w. w.now) words.now) }
 {
     match words {
-        [p, a, name, r] => granted(pages, p, a, name, r, false),
-        [p, a, name, r, word] => given(pages, p, a, name, r, word),
+        [p, a, name, r] => grant_command(pages, p, a, name, r, false),
+        [p, a, name, r, word] => grant_with_give(pages, p, a, name, r, word),
         [] | [_] | [_, _] | [_, _, _] | [_, _, _, _, _, _, ..] => Err(InputCause::WordCount),
     }
 }
 
 /// A grant with a word after its right.
-#[tactic(auto, unfolding(crate::specs::InputLines::given))]
-fn given(
+#[tactic(auto, unfolding(crate::specs::InputLines::grant_with_give))]
+fn grant_with_give(
     pages: &NamedPages<'_>,
     p: &[u8],
     a: &[u8],
@@ -135,9 +135,9 @@ fn given(
     word: &[u8],
 ) -> Result<Command, InputCause>
     requires { length pages.now ≤ 1024 }
-    ensures { result ≡ given pages.now p.now a.now name.now r.now word.now }
+    ensures { result ≡ grant_with_give pages.now p.now a.now name.now r.now word.now }
 {
-    let command = granted(pages, p, a, name, r, true)?;
+    let command = grant_command(pages, p, a, name, r, true)?;
     if word == b"give".as_slice() {
         Ok(command)
     } else {
@@ -146,8 +146,8 @@ fn given(
 }
 
 /// A grant of a page, which may be given on.
-#[tactic(auto, unfolding(crate::specs::InputLines::granted))]
-fn granted(
+#[tactic(auto, unfolding(crate::specs::InputLines::grant_command))]
+fn grant_command(
     pages: &NamedPages<'_>,
     p: &[u8],
     a: &[u8],
@@ -156,9 +156,9 @@ fn granted(
     give: bool,
 ) -> Result<Command, InputCause>
     requires { length pages.now ≤ 1024 }
-    ensures { result ≡ granted pages.now p.now a.now name.now r.now give }
+    ensures { result ≡ grant_command pages.now p.now a.now name.now r.now give }
 {
-    let EntryPlace { process, address } = place_of(p, a)?;
+    let EntryPlace { process, address } = entry_place_of(p, a)?;
     let page = page_named(pages, name).ok_or(InputCause::UnknownPage)?;
     let right = right_of(r).ok_or(InputCause::BadRight)?;
     Ok(Command::Grant {
@@ -174,7 +174,7 @@ fn entry_in(words: &[&[u8]]) -> Result<EntryPlace, InputCause>
     ensures { result ≡ entry_in (map (λ w. w.now) words.now) }
 {
     match words {
-        [p, a] => place_of(p, a),
+        [p, a] => entry_place_of(p, a),
         [] | [_] | [_, _, _, ..] => Err(InputCause::WordCount),
     }
 }
@@ -183,27 +183,27 @@ fn process_in(words: &[&[u8]]) -> Result<u32, InputCause>
     ensures { result ≡ process_in (map (λ w. w.now) words.now) }
 {
     match words {
-        [p] => process_of(p).ok_or(InputCause::BadProcess),
+        [p] => process_number_of(p).ok_or(InputCause::BadProcess),
         [] | [_, _, ..] => Err(InputCause::WordCount),
     }
 }
 
-fn place_of(p: &[u8], a: &[u8]) -> Result<EntryPlace, InputCause>
-    ensures { result ≡ place_of p.now a.now }
+fn entry_place_of(p: &[u8], a: &[u8]) -> Result<EntryPlace, InputCause>
+    ensures { result ≡ entry_place_of p.now a.now }
 {
-    let process = process_of(p).ok_or(InputCause::BadProcess)?;
+    let process = process_number_of(p).ok_or(InputCause::BadProcess)?;
     let address = address_of(a).ok_or(InputCause::BadAddress)?;
     Ok(EntryPlace { process, address })
 }
 
-fn process_of(word: &[u8]) -> Option<u32>
-    ensures { result ≡ process_of word.now }
+fn process_number_of(word: &[u8]) -> Option<u32>
+    ensures { result ≡ process_number_of word.now }
 {
     decimal_of(u32::MAX, word)
 }
 
-fn line_of(word: &[u8]) -> Option<u8>
-    ensures { result ≡ line_of word.now }
+fn console_line_of(word: &[u8]) -> Option<u8>
+    ensures { result ≡ console_line_of word.now }
 {
     match word {
         [c] => match *c {
@@ -231,6 +231,6 @@ fn page_named(pages: &NamedPages<'_>, name: &[u8]) -> Option<u32>
     requires { length pages.now ≤ 1024 }
     ensures { result ≡ page_named pages.now name.now }
 {
-    let place = pages.number_of(name)?;
+    let place = pages.number_named(name)?;
     Some(place as u32)
 }

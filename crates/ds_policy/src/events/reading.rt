@@ -1,6 +1,6 @@
 //! The reading of an input, line by line.
 ghost use Rattle.std.specs.Prelude.{◌≡◌, ◌≤◌, ◌==◌, length, unwrap_or, OnOk, OnErr, true};
-ghost use Rattle.ds_policy.specs.Refusal.{IsRead};
+ghost use Rattle.ds_policy.specs.Inner.Refusal.{IsRead};
 ghost use Rattle.ds_policy.specs.InputLayout.{layout_cause};
 ghost use Rattle.ds_policy.specs.InputText.{with_event, follows, is_skipped, with_words, with_line, reason_at};
 

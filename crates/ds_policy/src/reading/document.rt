@@ -4,7 +4,8 @@ ghost use Rattle.std.specs.List.{list_all, list_any};
 ghost use Rattle.std.specs.BTreeMap.{keys};
 ghost use Rattle.toml.specs.Data.{get_member};
 ghost use Rattle.toml.specs.View.{view, table_view, items_view};
-ghost use Rattle.ds_policy.specs.Refusal.{IsRead, or_else};
+ghost use Rattle.ds_policy.specs.Refusal.{or_else};
+ghost use Rattle.ds_policy.specs.Inner.Refusal.{IsRead};
 ghost use Rattle.ds_policy.specs.declared.cause.PolicyReason.TheVariants.{NotToml};
 ghost use Rattle.ds_policy.specs.Document.{document, number_in, number_at, text_at, is_among, has_only, item_count, items_between};
 
@@ -71,7 +72,7 @@ pub fn text_at<'a>(table: &'a Table, key: &str) -> Option<&'a str>
 }
 
 /// The integer at a key, if there is one from `low` to `high`.
-pub fn number_of(table: &Table, key: &str, low: u32, high: u32) -> Option<u32>
+pub fn integer_at(table: &Table, key: &str, low: u32, high: u32) -> Option<u32>
     ensures exact { result ≡ number_at key.now low high (table_view table.now) }
     ensures within { IfSome result (λ n. (low ≤ n) × (n ≤ high)) }
 {

@@ -3,16 +3,16 @@ ghost use Rattle.std.specs.Prelude.{◌≡◌, ◌≤◌, List, length, option_m
 ghost use Rattle.std.specs.Result.{result_map_both};
 ghost use Rattle.std.specs.List.{list_all};
 ghost use Rattle.toml.specs.View.{view, table_view, items_view};
-ghost use Rattle.ds_policy.specs.Refusal.{IsRead};
-ghost use Rattle.ds_policy.specs.PolicyParts.{is_name, is_name_byte, is_source_name, is_source_byte, source_of, page_of, new_page};
+ghost use Rattle.ds_policy.specs.Inner.Refusal.{IsRead};
+ghost use Rattle.ds_policy.specs.PolicyParts.{is_page_name, is_name_byte, is_source_name, is_source_byte, source_of, page_of, new_page};
 ghost use Rattle.ds_policy.specs.PolicyText.{pages_from, pages_of};
-ghost use Rattle.ds_policy.specs.Names.{held_number, AreNamed};
+ghost use Rattle.ds_policy.specs.Inner.Names.{held_number, AreNamed};
 ghost use Rattle.ds_policy.specs.declared.policy.PolicyPage.{PolicyPage};
 
 use crate::cause::{PageCause, PolicyReason};
 use crate::names::Names;
 use crate::policy::{PolicyPage, Source};
-use crate::reading::document::{has_only, items_between, number_of, text_at};
+use crate::reading::document::{has_only, integer_at, items_between, text_at};
 use crate::text::Text;
 use crate::unread::Unread;
 use std::alloc::Global;
@@ -72,7 +72,7 @@ fn new_page<'a>(names: &Names<'a>, value: &'a Value) -> Result<(&'a [u8], Policy
     ensures absent { IfOk result (λ p. held_number names.now p.0.now ≡ None) }
 {
     let found = page_of(value)?;
-    if names.number_of(found.0).is_some() {
+    if names.number_named(found.0).is_some() {
         return Err(PageCause::SameName);
     }
     Ok(found)
@@ -88,7 +88,7 @@ fn page_of(value: &Value) -> Result<(&[u8], PolicyPage), PageCause>
         return Err(PageCause::OtherKey);
     }
     let name = text_at(table, "name").ok_or(PageCause::BadName)?;
-    if !is_name(name) {
+    if !is_page_name(name) {
         return Err(PageCause::BadName);
     }
     let source = source_of(table)?;
@@ -112,15 +112,15 @@ fn source_of(table: &Table) -> Result<Option<Source>, PageCause>
     if !is_source_name(name) {
         return Err(PageCause::BadSource);
     }
-    let part = number_of(table, "part", 0, 15).ok_or(PageCause::BadPart)?;
+    let part = integer_at(table, "part", 0, 15).ok_or(PageCause::BadPart)?;
     Ok(Some(Source {
         name: Text::of(name),
         part: part as u8,
     }))
 }
 
-fn is_name(text: &str) -> bool
-    ensures { result ≡ is_name text.now }
+fn is_page_name(text: &str) -> bool
+    ensures { result ≡ is_page_name text.now }
 {
     text.len() >= 1 && text.len() <= 16 && has_name_bytes(text.as_bytes())
 }

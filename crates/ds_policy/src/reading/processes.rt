@@ -1,13 +1,13 @@
 //! The processes of a policy, and its rate.
 ghost use Rattle.std.specs.Prelude.{◌≡◌, ◌≤◌, length, option_map, IfOk};
 ghost use Rattle.toml.specs.View.{view, items_view};
-ghost use Rattle.ds_policy.specs.Refusal.{IsRead};
-ghost use Rattle.ds_policy.specs.PolicyParts.{process_of, rate_of};
+ghost use Rattle.ds_policy.specs.Inner.Refusal.{IsRead};
+ghost use Rattle.ds_policy.specs.PolicyParts.{policy_process_of, rate_of};
 ghost use Rattle.ds_policy.specs.PolicyText.{processes_from, processes_of};
 
 use crate::cause::{PolicyReason, ProcessCause};
 use crate::policy::PolicyProcess;
-use crate::reading::document::{has_only, items_between, number, number_of};
+use crate::reading::document::{has_only, integer_at, items_between, number};
 use crate::unread::Unread;
 use std::alloc::Global;
 use toml::Value;
@@ -51,7 +51,7 @@ fn processes_in(alloc: Global, values: &[Value]) -> Result<Vec<PolicyProcess>, U
 {
     let mut processes = Vec::new(alloc);
     for value in values {
-        match process_of(value) {
+        match policy_process_of(value) {
             Ok(process) => processes.push(process)?,
             Err(cause) => {
                 return Err(Unread::Reason(PolicyReason::Process {
@@ -64,16 +64,16 @@ fn processes_in(alloc: Global, values: &[Value]) -> Result<Vec<PolicyProcess>, U
     Ok(processes)
 }
 
-#[tactic(auto, unfolding(crate::specs::PolicyParts::process_of))]
-fn process_of(value: &Value) -> Result<PolicyProcess, ProcessCause>
-    ensures { result ≡ process_of (view value.now) }
+#[tactic(auto, unfolding(crate::specs::PolicyParts::policy_process_of))]
+fn policy_process_of(value: &Value) -> Result<PolicyProcess, ProcessCause>
+    ensures { result ≡ policy_process_of (view value.now) }
 {
     let table = value.as_table().ok_or(ProcessCause::NotTable)?;
     if !has_only(table, &["start", "line"]) {
         return Err(ProcessCause::OtherKey);
     }
-    let start = number_of(table, "start", 0, u32::MAX).ok_or(ProcessCause::BadStart)?;
-    let line = number_of(table, "line", 0, 3).ok_or(ProcessCause::BadLine)?;
+    let start = integer_at(table, "start", 0, u32::MAX).ok_or(ProcessCause::BadStart)?;
+    let line = integer_at(table, "line", 0, 3).ok_or(ProcessCause::BadLine)?;
     Ok(PolicyProcess {
         start,
         line: line as u8,

@@ -2,18 +2,18 @@
 ghost use Rattle.std.specs.Prelude.{◌≡◌, ◌≤◌, ◌==◌, ◌+◌, ◌&&◌, ◌∷◌, ◌++◌, [], List, length, option_map, count_by, nat_le, IfOk, OnOk};
 ghost use Rattle.std.specs.List.{list_any};
 ghost use Rattle.toml.specs.View.{view, table_view, items_view};
-ghost use Rattle.ds_policy.specs.Refusal.{IsRead};
+ghost use Rattle.ds_policy.specs.Inner.Refusal.{IsRead};
 ghost use Rattle.ds_policy.specs.Grants.{region, count_distinct};
 ghost use Rattle.ds_policy.specs.PolicyParts.{right_named, flag_of, until_of, may_end, nothing_of, grant_of, rule_of, has_same_place, beside, new_rule, regions_of};
 ghost use Rattle.ds_policy.specs.PolicyText.{rules_from, rules_of};
-ghost use Rattle.ds_policy.specs.OwnRules.{AreByProcess};
+ghost use Rattle.ds_policy.specs.Inner.OwnRules.{AreByProcess};
 ghost use Rattle.ds_policy.specs.declared.policy.PolicyRule.{PolicyRule};
 
 use crate::cause::{PolicyReason, RuleCause};
 use crate::grant::Right;
 use crate::names::NamedPages;
 use crate::policy::{PolicyPage, PolicyRule};
-use crate::reading::document::{has_only, items_between, number, number_of, text_at, value_at};
+use crate::reading::document::{has_only, integer_at, items_between, number, text_at, value_at};
 use crate::reading::own::{OwnRules, no_rules};
 use crate::unread::Unread;
 use std::alloc::{AllocError, Global};
@@ -146,8 +146,8 @@ fn rule_of(
     if !may_end(version, table) {
         return Err(RuleCause::UntilOfVersion1);
     }
-    let process = number_of(table, "process", 1, processes).ok_or(RuleCause::BadProcess)?;
-    let address = number_of(table, "address", 0, 0x7FFF_FFFF).ok_or(RuleCause::BadAddress)?;
+    let process = integer_at(table, "process", 1, processes).ok_or(RuleCause::BadProcess)?;
+    let address = integer_at(table, "address", 0, 0x7FFF_FFFF).ok_or(RuleCause::BadAddress)?;
     if address % 4096 != 0 {
         return Err(RuleCause::BadAddress);
     }
@@ -201,7 +201,9 @@ fn grant_of(
         Right::Nothing => nothing_of(table),
         Right::Read | Right::Write => {
             let name = text_at(table, "page").ok_or(RuleCause::BadPage)?;
-            let page = pages.number_of(name.as_bytes()).ok_or(RuleCause::BadPage)?;
+            let page = pages
+                .number_named(name.as_bytes())
+                .ok_or(RuleCause::BadPage)?;
             let give = flag_of(value_at(table, "give")).ok_or(RuleCause::BadGive)?;
             let until = until_of(value_at(table, "until")).ok_or(RuleCause::BadUntil)?;
             Ok((Some(page as u32), give, until))

@@ -1,7 +1,8 @@
 //! The sources of a policy's pages.
 ghost use Rattle.std.specs.Prelude.{◌≡◌, IfOk, OnOk};
-ghost use Rattle.ds_policy.specs.PolicyParts.{with_source, sources_of};
-ghost use Rattle.ds_policy.specs.Names.{AreHeld};
+ghost use Rattle.ds_policy.specs.PolicyParts.{sources_of};
+ghost use Rattle.ds_policy.specs.Inner.PolicyParts.{with_source};
+ghost use Rattle.ds_policy.specs.Inner.Names.{AreHeld};
 
 use crate::names::Names;
 use crate::policy::{PolicyPage, Source};
@@ -33,7 +34,7 @@ fn add_source<'a>(
     match source {
         Some(source) => {
             let name = source.name.as_str();
-            if names.number_of(name.as_bytes()).is_none() {
+            if names.number_named(name.as_bytes()).is_none() {
                 names.insert(name.as_bytes(), sources.len())?;
                 sources.push(Text::of(name))?;
             }

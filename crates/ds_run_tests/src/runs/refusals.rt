@@ -101,7 +101,7 @@ fn of_two_names_the_first_ones_fault_is_told(rt: HostRuntime) -> Result<(), Allo
 }
 
 #[test]
-fn more_ticks_than_are_served_are_refused_behind_the_input_and_before_random(
+fn more_ticks_than_are_served_are_refused_after_the_input_and_before_random(
     rt: HostRuntime,
 ) -> Result<(), AllocError> {
     let good = [("one.s", PUT_A.as_bytes())];

@@ -24,7 +24,7 @@ pub struct Frames {
 }
 
 /// A number's place in the lists.
-fn place_of(number: u32) -> usize
+fn list_place(number: u32) -> usize
     ensures { result < 1024 }
 {
     number as usize % PAGES
@@ -45,7 +45,7 @@ pub fn named_pages(named: u32) -> [bool; PAGES] {
 pub fn note_pages(live: &mut [bool; PAGES], entries: &[Entry]) {
     for entry in entries {
         if let Some(page) = entry.grant.page {
-            live[place_of(page)] = true;
+            live[list_place(page)] = true;
         }
     }
 }
@@ -91,7 +91,7 @@ impl Frames {
         let dirty = match grant.right {
             Right::Nothing => return 0,
             Right::Read => 0,
-            Right::Write if self.marked[place_of(page)] => 0,
+            Right::Write if self.marked[list_place(page)] => 0,
             Right::Write => DIRTY,
         };
         match self.frame(page) {
@@ -102,9 +102,9 @@ impl Frames {
 
     /// A page has been copied.
     pub fn copy(&mut self, page: u32, copy: u32) {
-        self.lies[place_of(copy)] = self.lies[place_of(page)];
-        self.marked[place_of(page)] = true;
-        self.marked[place_of(copy)] = true;
+        self.lies[list_place(copy)] = self.lies[list_place(page)];
+        self.marked[list_place(page)] = true;
+        self.marked[list_place(copy)] = true;
     }
 
     /// How many pages that live lie in each frame.
@@ -112,7 +112,7 @@ impl Frames {
         let mut counts: [u32; PAGES] = [0; PAGES];
         for page in 0..PAGES {
             if live[page] {
-                let frame = place_of(self.lies[page]);
+                let frame = list_place(self.lies[page]);
                 counts[frame] = counts[frame].saturating_add(1);
             }
         }
@@ -123,9 +123,9 @@ impl Frames {
     /// in its frame.
     pub fn split(&mut self, page: u32, live: &[bool; PAGES]) {
         let counts = self.counts(live);
-        if counts[place_of(self.lies[place_of(page)])] > 1 {
-            self.lies[place_of(page)] = first_free(&counts);
+        if counts[list_place(self.lies[list_place(page)])] > 1 {
+            self.lies[list_place(page)] = first_free(&counts);
         }
-        self.marked[place_of(page)] = false;
+        self.marked[list_place(page)] = false;
     }
 }

@@ -30,8 +30,8 @@ pub fn answer<L: Lookaside>(question: Question, bus: &mut Bus, numbers: &Numbers
     let given = numbers.given();
     match question {
         Question::Fault => fault_of::<L>(bus, given),
-        Question::Registers => Some(registers_behind::<L>(bus, given)),
-        Question::Entry => entry_behind::<L>(bus, given),
+        Question::Registers => Some(registers_after::<L>(bus, given)),
+        Question::Entry => entry_after::<L>(bus, given),
     }
 }
 
@@ -76,7 +76,7 @@ fn run<L: Lookaside>(core: &mut Core<L>, bus: &mut Bus, words: &[u32])
 
 /// What registers 4 and 9 hold after the words that are given, run by the kernel with register 8
 /// at their first.
-fn registers_behind<L: Lookaside>(bus: &mut Bus, words: &[u32]) -> Answer
+fn registers_after<L: Lookaside>(bus: &mut Bus, words: &[u32]) -> Answer
     requires slots { L.SLOTS ≡ 64 }
     requires wired { L.WIRED ≡ 8 }
 {
@@ -87,7 +87,7 @@ fn registers_behind<L: Lookaside>(bus: &mut Bus, words: &[u32]) -> Answer
 
 /// What Index, EntryHi, EntryLo and register 9 hold after the kernel's words. Given are Index,
 /// EntryHi and EntryLo before them, and the words.
-fn entry_behind<L: Lookaside>(bus: &mut Bus, given: &[u32]) -> Option<Answer>
+fn entry_after<L: Lookaside>(bus: &mut Bus, given: &[u32]) -> Option<Answer>
     requires slots { L.SLOTS ≡ 64 }
     requires wired { L.WIRED ≡ 8 }
 {

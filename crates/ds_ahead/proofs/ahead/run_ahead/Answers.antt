@@ -1,7 +1,7 @@
 use Rattle.std.proofs.Common.{◌<◌, ◌^◌, subst, arith}
 use Rattle.std.specs.Prelude.{Option, Some, None, IfSome}
 use Rattle.ds_cp0.specs.declared.exception.ExceptionCode.{ExceptionCode}
-use Rattle.ds_ahead.specs.Ahead.{hardware_of, after_steps, AdvancesTo}
+use Rattle.ds_ahead.specs.Inner.Ahead.{hardware_of, after_steps, AdvancesTo}
 use Rattle.ds_ahead.proofs.Slots.{ticks_of_advance}
 use Rattle.ds_ahead.proofs.Stretches.{join_to, words_join, words_to}
 use Rattle.ds_ahead.proofs.ahead.run_ahead.Goals as goal

@@ -1,5 +1,5 @@
 use Rattle.std.proofs.Common.{ℕ, ◌<◌, ◌≤◌, ◌-◌, ◌^◌}
-use Rattle.ds_ahead.specs.Ahead.{Advances, after_steps, hardware_of}
+use Rattle.ds_ahead.specs.Inner.Ahead.{Advances, after_steps, hardware_of}
 use Rattle.ds_ahead.proofs.ahead.run_ahead.Given as goal
 
 abbrev pub invariant-loop-steps : goal.invariant-loop-steps

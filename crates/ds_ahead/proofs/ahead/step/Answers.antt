@@ -1,5 +1,5 @@
 use Rattle.std.proofs.Common.{refl, arith}
-use Rattle.ds_ahead.specs.Ahead.{hardware_of}
+use Rattle.ds_ahead.specs.Inner.Ahead.{hardware_of}
 use Rattle.ds_ahead.proofs.Advances.{advances_none, advances_on, calm_event}
 use Rattle.ds_ahead.proofs.ahead.step.Goals as goal
 

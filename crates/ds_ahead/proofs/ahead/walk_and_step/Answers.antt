@@ -1,5 +1,5 @@
 use Rattle.std.proofs.Common.{◌∙◌, ◌-◌, arith}
-use Rattle.ds_ahead.specs.Ahead.{hardware_of}
+use Rattle.ds_ahead.specs.Inner.Ahead.{hardware_of}
 use Rattle.ds_ahead.proofs.Advances.{advances_on, comes_on, calm_event}
 use Rattle.ds_ahead.proofs.ahead.walk_and_step.Goals as goal
 

@@ -1,11 +1,11 @@
 use Rattle.std.proofs.Common.{◌≡◌, ℕ, ◌+◌, ◌*◌, ◌∙◌, sym, ap, subst, arith}
 use Rattle.ds_isa.specs.Registers.{settled}
 use Rattle.ds_isa.specs.Meaning.{Effect, Branches}
-use Rattle.ds_operations.specs.Does.{does, target_by}
-use Rattle.ds_pages.specs.Places.{Fields}
+use Rattle.ds_operations.specs.Inner.Does.{does, target_by}
+use Rattle.ds_pages.specs.Inner.Places.{Fields}
 use Rattle.ds_ahead.specs.declared.operations.Outcome.TheVariants.{Branched}
-use Rattle.ds_ahead.specs.Placed.{Place, registers_at}
-use Rattle.ds_ahead.specs.Operations.{ComesTo}
+use Rattle.ds_ahead.specs.Inner.Placed.{Place, registers_at}
+use Rattle.ds_ahead.specs.Inner.Operations.{ComesTo}
 use Rattle.ds_ahead.proofs.Runs.{moves_in_page}
 use Rattle.ds_ahead.proofs.branch.do_branch.Goals as goal
 

@@ -1,5 +1,5 @@
 use Rattle.std.proofs.Common.{ap}
-use Rattle.ds_ahead.specs.Placed.{Place}
+use Rattle.ds_ahead.specs.Inner.Placed.{Place}
 use Rattle.ds_ahead.proofs.Runs.{outcome_in_page}
 use Rattle.ds_ahead.proofs.run.do_slot_operation.Goals as goal
 

@@ -1,6 +1,6 @@
 use Rattle.std.proofs.Common.{subst}
 use Rattle.ds_ahead.specs.declared.here.Way.{Way}
-use Rattle.ds_ahead.specs.Run.{Ran, left_here, position_here}
+use Rattle.ds_ahead.specs.Inner.Run.{Ran, left_here, position_here}
 use Rattle.ds_ahead.proofs.Turns.{ran_both, ran_out}
 use Rattle.ds_ahead.proofs.run.run.Goals as goal
 

@@ -1,6 +1,6 @@
-use Rattle.ds_pages.specs.Page.{HoldsWords}
+use Rattle.ds_pages.specs.Inner.Page.{HoldsWords}
 use Rattle.ds_ahead.specs.declared.here.Way.TheVariants.{On}
-use Rattle.ds_ahead.specs.Run.{StandsIn, IsFreeHere, Ran, left_here}
+use Rattle.ds_ahead.specs.Inner.Run.{StandsIn, IsFreeHere, Ran, left_here}
 use Rattle.ds_ahead.proofs.run.run.Given as goal
 
 abbrev pub invariant-loop-here : goal.invariant-loop-here

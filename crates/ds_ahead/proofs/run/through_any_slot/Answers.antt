@@ -2,7 +2,7 @@ use Rattle.std.proofs.Common.{◌≡◌, ◌≢◌, ◌∙◌, sym, subst}
 use Rattle.std.specs.Prelude.{Option, IfSome}
 use Rattle.ds_operations.specs.declared.operation.OperationKind.{OperationKind}
 use Rattle.ds_operations.specs.declared.operation.OperationKind.TheVariants as kinds
-use Rattle.ds_pages.specs.Does.{single}
+use Rattle.ds_pages.specs.Inner.Does.{single}
 use Rattle.ds_ahead.proofs.run.through_any_slot.Goals as goal
 
 pub through_slot-requires-clause-single : goal.through_slot-requires-clause-single

@@ -1,8 +1,8 @@
 use Rattle.std.proofs.Common.{◌+◌, subst, refl, ap, arith}
-use Rattle.ds_pages.specs.Places.{does_at, fields_at}
+use Rattle.ds_pages.specs.Inner.Places.{does_at, fields_at}
 use Rattle.ds_ahead.specs.declared.operations.Outcome.{Outcome}
-use Rattle.ds_ahead.specs.Placed.{Place}
-use Rattle.ds_ahead.specs.Operations.{HasOutcome}
+use Rattle.ds_ahead.specs.Inner.Placed.{Place}
+use Rattle.ds_ahead.specs.Inner.Operations.{HasOutcome}
 use Rattle.ds_ahead.proofs.Turns.{slot_landed, slot_not_done, slot_left}
 use Rattle.ds_core.specs.declared.event.Event.TheVariants as event
 use Rattle.ds_ahead.proofs.run.through_slot.Goals as goal

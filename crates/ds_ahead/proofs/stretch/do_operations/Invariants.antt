@@ -1,6 +1,6 @@
 use Rattle.std.proofs.Common.{◌≡◌, ◌≤◌, ◌-◌}
 use Rattle.std.specs.Prelude.{None}
-use Rattle.ds_ahead.specs.Operations.{LeadsOn}
+use Rattle.ds_ahead.specs.Inner.Operations.{LeadsOn}
 use Rattle.ds_ahead.proofs.stretch.do_operations.Given as goal
 
 abbrev pub invariant-loop-left : goal.invariant-loop-left

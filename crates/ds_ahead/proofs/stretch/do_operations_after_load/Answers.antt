@@ -1,7 +1,7 @@
 use Rattle.std.proofs.Common.{◌-◌, subst, refl, arith}
 use Rattle.ds_ahead.specs.declared.operations.Outcome.{Outcome}
 use Rattle.ds_core.specs.declared.event.Event.TheVariants as event
-use Rattle.ds_ahead.specs.Operations.{HasOutcome}
+use Rattle.ds_ahead.specs.Inner.Operations.{HasOutcome}
 use Rattle.ds_ahead.proofs.Stretches.{leads_on}
 use Rattle.ds_ahead.proofs.stretch.do_operations_after_load.Goals as goal
 

@@ -1,5 +1,5 @@
 use Rattle.std.proofs.Common.{◌≤◌, ◌-◌}
-use Rattle.ds_ahead.specs.Operations.{LeadsOn}
+use Rattle.ds_ahead.specs.Inner.Operations.{LeadsOn}
 use Rattle.ds_ahead.proofs.stretch.do_operations_after_load.Given as goal
 
 abbrev pub invariant-loop-left : goal.invariant-loop-left

@@ -2,7 +2,7 @@ use Rattle.std.proofs.Common.{◌+◌, ap, refl, arith}
 use Rattle.ds_word.specs.Bytes.{word_at}
 use Rattle.ds_isa.specs.Instruction.{instruction_of}
 use Rattle.ds_amap.specs.Map.{at_physical}
-use Rattle.ds_ahead.specs.Placed.{Place, placed}
+use Rattle.ds_ahead.specs.Inner.Placed.{Place, placed}
 use Rattle.ds_ahead.proofs.Codes.{reaches_page}
 use Rattle.ds_ahead.proofs.Stretches.{knows_placed}
 use Rattle.ds_core.proofs.Fetches.{instruction_at, in_memory, kept_in_memory}

@@ -1,12 +1,12 @@
 use Rattle.std.proofs.Common.{◌≡◌, ◌∙◌, true, sym, ap, subst, arith}
-use Rattle.ds_pages.specs.Does.{is_load, has_slot}
-use Rattle.ds_pages.specs.Places.{does_at, fields_at}
+use Rattle.ds_pages.specs.Inner.Does.{is_load, has_slot}
+use Rattle.ds_pages.specs.Inner.Places.{does_at, fields_at}
 use Rattle.ds_ahead.specs.declared.here.Here.{Here}
 use Rattle.ds_ahead.specs.declared.here.Way.TheVariants.{On}
 use Rattle.ds_ahead.specs.declared.operations.Outcome.{Outcome}
-use Rattle.ds_ahead.specs.Goes.{GoesBy}
-use Rattle.ds_ahead.specs.Placed.{Place}
-use Rattle.ds_ahead.specs.Run.{place_in, MovesAt, Ran, left_here, position_here}
+use Rattle.ds_ahead.specs.Inner.Goes.{GoesBy}
+use Rattle.ds_ahead.specs.Inner.Placed.{Place}
+use Rattle.ds_ahead.specs.Inner.Run.{place_in, MovesAt, Ran, left_here, position_here}
 use Rattle.ds_ahead.proofs.Turns.{turn_done, turn_loaded, turn_not_done}
 use Rattle.ds_ahead.proofs.turn.plain.Goals as goal
 
@@ -21,7 +21,7 @@ returns-in-Done-clause-ran g c =
     let turn = turn_done p c.args.first c.args.rest.now h c.args.core.now (fields_at p h.place).to at c.args.bus.now c.do_operation.new.core c.do_operation.new.at c.do_operation.new.bus
     is c.requires.goes.stands c.requires.goes.free c.requires.low (sym c.length-length.ensures.value ∙ c.length-length.ensures.steps) (omega (arith, c.length-length.ensures.value, c.length-length.ensures.within))
     moves goes c.do_operation.ensures.calm in
-    subst (λ (x : Here). Ran On (left_here p h c.args.rest.now) c.args.core.now (position_here c.args.first h) c.args.bus.now p c.args.first x c.args.rest.now c.do_operation.new.core c.do_operation.new.at c.do_operation.new.bus) (sym c.go_on.ensures) turn.3
+    subst (λ (x : Here). Ran On (left_here p h c.args.rest.now) c.args.core.now (position_here c.args.first h) c.args.bus.now p c.args.first x c.args.rest.now c.do_operation.new.core c.do_operation.new.at c.do_operation.new.bus) (sym c.go_to_next.ensures) turn.3
 
 pub returns-in-Loaded-clause-ran : goal.returns-in-Loaded-clause-ran
 returns-in-Loaded-clause-ran g c =

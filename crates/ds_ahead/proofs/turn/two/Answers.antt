@@ -1,4 +1,4 @@
-use Rattle.ds_ahead.specs.Run.{left_here, position_here}
+use Rattle.ds_ahead.specs.Inner.Run.{left_here, position_here}
 use Rattle.ds_ahead.proofs.Turns.{ran_both, ran_on}
 use Rattle.ds_ahead.proofs.turn.two.Goals as goal
 

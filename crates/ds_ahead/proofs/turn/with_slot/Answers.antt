@@ -1,9 +1,9 @@
 use Rattle.std.proofs.Common.{◌≡◌, ◌+◌, ◌∙◌, sym, subst, arith}
-use Rattle.ds_pages.specs.Places.{does_at, fields_at}
+use Rattle.ds_pages.specs.Inner.Places.{does_at, fields_at}
 use Rattle.ds_ahead.specs.declared.operations.Outcome.{Outcome}
-use Rattle.ds_ahead.specs.Goes.{GoesBy}
-use Rattle.ds_ahead.specs.Placed.{Place}
-use Rattle.ds_ahead.specs.Run.{place_in, MovesAt, left_here, position_here}
+use Rattle.ds_ahead.specs.Inner.Goes.{GoesBy}
+use Rattle.ds_ahead.specs.Inner.Placed.{Place}
+use Rattle.ds_ahead.specs.Inner.Run.{place_in, MovesAt, left_here, position_here}
 use Rattle.ds_ahead.proofs.Turns.{ran_both, turn_branched}
 use Rattle.ds_ahead.proofs.turn.with_slot.Goals as goal
 

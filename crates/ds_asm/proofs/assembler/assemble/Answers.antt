@@ -1,6 +1,6 @@
 use Rattle.std.proofs.Common.{◌∙◌, sym, ap, subst, refl, [], Ok, arith}
-use Rattle.ds_asm.specs.Assembly.{empty_layout, lines_of, with_lines, bytes_from, address_of}
-use Rattle.ds_asm.specs.Assembling.{Fails, held_address}
+use Rattle.ds_asm.specs.Assembly.{empty_layout, lines_of, laid_lines, bytes_from, label_address}
+use Rattle.ds_asm.specs.Inner.Assembling.{Fails, held_address}
 use Rattle.ds_asm.proofs.SourceLines.{fails_bind}
 use Rattle.ds_asm.proofs.ImageSizes.{bytes_fit, assembled_by}
 use Rattle.ds_asm.proofs.assembler.assemble.Goals as goal
@@ -21,4 +21,4 @@ returns-in-Ok c =
     subst (Fails c.in-Err-bytes_of.fault) (sym (assembled_by c.args.text.now l (held_address c.in-Ok.layout.labels) said laid.labels)) c.in-Err-bytes_of.ensures
 
 pub returns : goal.returns
-returns c = fails_bind c.in-Err.first (with_lines 1 empty_layout (lines_of c.args.text.now)) (λ layout. bytes_from 1 (address_of layout.labels) [] (lines_of c.args.text.now)) c.in-Err.ensures
+returns c = fails_bind c.in-Err.first (laid_lines 1 empty_layout (lines_of c.args.text.now)) (λ layout. bytes_from 1 (label_address layout.labels) [] (lines_of c.args.text.now)) c.in-Err.ensures

@@ -1,6 +1,6 @@
 use Rattle.std.proofs.Common.{◌≡◌, ◌∙◌, sym, ap, refl, [], Ok, ◌==◌, false, length, arith, rules}
-use Rattle.ds_asm.specs.Assembly.{empty_layout, lines_of, address_of}
-use Rattle.ds_asm.specs.Assembling.{held_address}
+use Rattle.ds_asm.specs.Assembly.{empty_layout, lines_of, label_address}
+use Rattle.ds_asm.specs.Inner.Assembling.{held_address}
 use Rattle.ds_asm.specs.Faults.{faults_by}
 use Rattle.ds_asm.proofs.ImageSizes.{bytes_fit, assembled_by, line_alike}
 use Rattle.ds_asm.proofs.AllFaults.{no_fault, refused_first, second_alike}
@@ -31,6 +31,6 @@ returns-in-Err-Source c =
       c.in-Err-Source.field-0-0,
       assembled_by c.args.text.now l find said laid.labels ∙ (rw c.in-Err-Source.field-0-is at c.in-Err-Source.ensures),
       c.in_ok-faults-in-Err-Source.ensures
-          ∙ (second_alike find (address_of l.labels) (line_alike find (address_of l.labels) laid.labels) 1 0 (lines_of c.args.text.now)
+          ∙ (second_alike find (label_address l.labels) (line_alike find (label_address l.labels) laid.labels) 1 0 (lines_of c.args.text.now)
           ∙ ap (λ r. faults_by r (lines_of c.args.text.now)) (sym said)),
     )

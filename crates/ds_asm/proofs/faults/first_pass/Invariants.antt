@@ -1,13 +1,13 @@
 use Rattle.std.proofs.Common.{◌≡◌, ◌+◌, ◌≤◌, [], ◌++◌, length}
-use Rattle.ds_asm.specs.Assembly.{Layout, empty_layout, lines_of, with_lines}
-use Rattle.ds_asm.specs.Assembling.{IsLaid}
+use Rattle.ds_asm.specs.Assembly.{Layout, empty_layout, lines_of, laid_lines}
+use Rattle.ds_asm.specs.Inner.Assembling.{IsLaid}
 use Rattle.ds_asm.specs.Faults.{first_faults}
 use Rattle.ds_asm.proofs.faults.first_pass.Given as goal
 
 abbrev pub invariant-loop-rest : goal.invariant-loop-rest
 invariant-loop-rest l = record {
   same : (m : Layout) × IsLaid l.layout m × (l.faults.items ++ first_faults (l.number + 1) m (lines_of l.rest) ≡ first_faults 1 empty_layout (lines_of l.text))
-      × (l.faults.items ≡ [] → with_lines (l.number + 1) m (lines_of l.rest) ≡ with_lines 1 empty_layout (lines_of l.text));
+      × (l.faults.items ≡ [] → laid_lines (l.number + 1) m (lines_of l.rest) ≡ laid_lines 1 empty_layout (lines_of l.text));
   fits : l.layout.size ≤ 65536;
   within : l.number + length l.rest ≤ length l.text;
 }

@@ -1,5 +1,5 @@
 use Rattle.std.proofs.Common.{◌+◌, ◌∙◌, sym, subst, length, rules}
-use Rattle.ds_asm.specs.Assembling.{Fails}
+use Rattle.ds_asm.specs.Inner.Assembling.{Fails}
 use Rattle.ds_asm.proofs.SourceLines.{lines_of-first, after_within, layout_good, layout_bad, layout_end}
 use Rattle.ds_asm.proofs.layout.layout_of.Goals as goal
 

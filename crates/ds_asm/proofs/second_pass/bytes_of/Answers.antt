@@ -1,5 +1,5 @@
 use Rattle.std.proofs.Common.{◌+◌, ◌∙◌, sym, subst, length, rules}
-use Rattle.ds_asm.specs.Assembling.{Fails, held_address}
+use Rattle.ds_asm.specs.Inner.Assembling.{Fails, held_address}
 use Rattle.ds_asm.proofs.SourceLines.{lines_of-first, after_within, bytes_good, bytes_bad, bytes_end}
 use Rattle.ds_asm.proofs.second_pass.bytes_of.Goals as goal
 

@@ -1,6 +1,6 @@
 use Rattle.std.proofs.Common.{◌≡◌, ◌+◌, ◌≤◌, length, []}
 use Rattle.ds_asm.specs.Assembly.{bytes_from, lines_of}
-use Rattle.ds_asm.specs.Assembling.{held_address}
+use Rattle.ds_asm.specs.Inner.Assembling.{held_address}
 use Rattle.ds_asm.proofs.second_pass.bytes_of.Given as goal
 
 abbrev pub invariant-loop-rest : goal.invariant-loop-rest

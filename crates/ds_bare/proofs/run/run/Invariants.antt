@@ -1,6 +1,7 @@
 use Rattle.std.proofs.Common.{◌≡◌, ◌-◌, false}
 use Rattle.ds_log.specs.Sent.{IsAskedOnce}
-use Rattle.ds_bare.specs.Runs.{IsUnderWay, ending_from, run_from}
+use Rattle.ds_bare.specs.Runs.{ending_from, run_from}
+use Rattle.ds_bare.specs.Inner.Runs.{IsUnderWay}
 use Rattle.ds_bare.proofs.CutBetween.{HasTold}
 use Rattle.ds_bare.proofs.run.run.Given as goal
 

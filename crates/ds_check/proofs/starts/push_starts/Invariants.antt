@@ -1,5 +1,6 @@
 use Rattle.std.proofs.Common.{◌≡◌, ◌+◌, ◌++◌, drop}
-use Rattle.ds_check.specs.Starts.{assembled, start_texts}
+use Rattle.ds_check.specs.Starts.{start_texts}
+use Rattle.ds_check.specs.Inner.Starts.{assembled}
 use Rattle.ds_check.proofs.starts.push_starts.Given as goal
 
 -- what is told, and what is told of the processes that are left, is all

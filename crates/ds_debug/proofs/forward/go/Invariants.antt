@@ -1,6 +1,6 @@
 use Rattle.std.proofs.Common.{◌≡◌, ◌-◌, None, false}
 use Rattle.ds_refinement.specs.Real.{RealPath}
-use Rattle.ds_refinement.specs.Runs.{RunsWithin}
+use Rattle.ds_refinement.specs.Inner.Runs.{RunsWithin}
 use Rattle.ds_debug.specs.Forward.{HasPassed}
 use Rattle.ds_debug.specs.Goals.{goal_with}
 use Rattle.ds_debug.proofs.forward.go.Given as goal

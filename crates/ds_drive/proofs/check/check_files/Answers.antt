@@ -1,5 +1,5 @@
 use Rattle.std.proofs.Common.{◌∙◌, ◌++◌, ap, ap₂, rules, ℕ, List}
-use Rattle.ds_drive.specs.AtFault.{texts_seen}
+use Rattle.ds_drive.specs.Inner.AtFault.{texts_seen}
 use Rattle.ds_drive.specs.Checked.{with_notes, with_ties}
 use Rattle.ds_drive.specs.Noted.{guest_notes, starts_of}
 use Rattle.ds_drive.specs.declared.run.SourceText.{SourceText}

@@ -3,14 +3,16 @@ use Rattle.std.specs.Prelude.{None}
 use Rattle.ds_policy_reasons.specs.Reasons.{policy_reason}
 use Rattle.ds_station.specs.Headline.{sources_seen}
 use Rattle.ds_drive.specs.declared.run.SourceText.{SourceText}
-use Rattle.ds_drive.specs.AtFault.{IsPlaceAt, IsReasonAt, place_told, plain, texts_seen}
+use Rattle.ds_drive.specs.AtFault.{IsPlaceAt, IsReasonAt, place_told, plain}
+use Rattle.ds_drive.specs.Inner.AtFault.{texts_seen}
 use Rattle.ds_station.specs.declared.fault.Fault.{Fault}
 use Rattle.ds_drive.specs.declared.failure.Failure.{Failure}
 use Rattle.ds_drive.specs.declared.failure.Failure.TheVariants as failure
 use Rattle.ds_drive.proofs.HeldFiles.{all_held, names_held, input_kept, begins_over}
 use Rattle.ds_drive.specs.Failures.{memory_failure}
 use Rattle.ds_drive.specs.Inside.{outside_of}
-use Rattle.ds_drive.specs.Reading.{ReadsRunUntil, TellsOfRun, input_names}
+use Rattle.ds_drive.specs.Reading.{ReadsRunUntil, input_names}
+use Rattle.ds_drive.specs.Inner.Reading.{TellsOfRun}
 use Rattle.ds_drive.proofs.Readings.{all_read_until, both_read_until, input_unread_until, policy_unread_until, source_unread_until}
 use Rattle.ds_drive.proofs.Stops.{if_err_is, refuses_policy, run_refuses}
 use Rattle.ds_drive.proofs.check.read_good.Goals as goal

@@ -1,7 +1,7 @@
 use Rattle.std.proofs.Common.{◌∙◌, List, map, ap}
 use Rattle.ds_station.specs.Headline.{sources_seen}
 use Rattle.ds_drive.specs.declared.run.SourceText.{SourceText}
-use Rattle.ds_drive.specs.AtFault.{texts_seen}
+use Rattle.ds_drive.specs.Inner.AtFault.{texts_seen}
 use Rattle.ds_drive.specs.Noted.{images_of}
 use Rattle.ds_drive.proofs.ExplainLemmas.{explain_ends, has_explained}
 use Rattle.ds_drive.proofs.explain.explain_files.Goals as goal

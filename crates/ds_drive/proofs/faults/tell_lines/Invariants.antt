@@ -1,6 +1,7 @@
 use Rattle.std.proofs.Common.{◌≡◌, ◌++◌, drop, false}
 use Rattle.ds_log.specs.Sent.{IsAskedOnce}
-use Rattle.ds_drive.specs.Told.{passed_in, told_lines}
+use Rattle.ds_drive.specs.Told.{told_lines}
+use Rattle.ds_drive.specs.Inner.Told.{passed_in}
 use Rattle.ds_drive.proofs.Tellings.{SentOf}
 use Rattle.ds_drive.proofs.faults.tell_lines.Given as goal
 

@@ -1,7 +1,7 @@
 use Rattle.std.proofs.Common.{List, ℕ, ap, subst}
 use Rattle.std.specs.Io.KnownBytes.{Appends}
 use Rattle.ds_log.specs.Sent.{AppendsPart}
-use Rattle.ds_log.proofs.Sends.{appends_both, at_err, err_gives, ok_gives, part_behind, part_before}
+use Rattle.ds_log.proofs.Sends.{appends_both, at_err, err_gives, ok_gives, part_after, part_before}
 use Rattle.ds_drive.specs.Hints.{source_hint}
 use Rattle.ds_drive.specs.Told.{Passed, none_passed, told_lines}
 use Rattle.ds_drive.proofs.list.send_listed.Goals as goal
@@ -25,7 +25,7 @@ returns-clause-all g c = ok_gives c.send_source_hint.result
 
 pub returns-clause-front : goal.returns-clause-front
 returns-clause-front g c = err_gives c.send_source_hint.result
-    (part_behind (g.E.Output.contents c.args.err.now) (g.E.Output.contents c.tell_lines.new.err) (g.E.Output.contents c.send_source_hint.new.err)
+    (part_after (g.E.Output.contents c.args.err.now) (g.E.Output.contents c.tell_lines.new.err) (g.E.Output.contents c.send_source_hint.new.err)
     (told_lines c.args.wording.front.now c.args.wording.place.now c.args.wording.text.now (none_passed c.args.wording.text.now) c.args.faults.now) (source_hint c.args.wording.text.now)
     (subst (λ (l : List ℕ). Appends (g.E.Output.contents c.args.err.now) (g.E.Output.contents c.tell_lines.new.err) l)
     (ap (λ (p : Passed). told_lines c.args.wording.front.now c.args.wording.place.now c.args.wording.text.now p c.args.faults.now) c.no_line_passed.ensures)

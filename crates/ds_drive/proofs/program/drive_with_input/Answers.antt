@@ -3,13 +3,13 @@ use Rattle.ds_drive.specs.declared.check.Checking.{Checking}
 use Rattle.ds_drive.specs.declared.list.Listing.{Listing}
 use Rattle.ds_debug.specs.Serving.{pipes}
 use Rattle.ds_debug.specs.declared.serving.Ending.{Ending}
-use Rattle.ds_drive.specs.Checked.{Checks}
+use Rattle.ds_drive.specs.Inner.Checked.{Checks}
 use Rattle.ds_drive.specs.Debugged.{HasDebugged}
 use Rattle.ds_drive.specs.Done.{stream}
-use Rattle.ds_station.specs.Faults.{number_of}
+use Rattle.ds_station.specs.Faults.{fault_number}
 use Rattle.ds_drive.specs.Failures.{failure_number}
-use Rattle.ds_drive.specs.Listed.{Lists}
-use Rattle.ds_drive.specs.BareRuns.{RunsOrIsFaulty}
+use Rattle.ds_drive.specs.Inner.Listed.{Lists}
+use Rattle.ds_drive.specs.Inner.BareRuns.{RunsOrIsFaulty}
 use Rattle.ds_drive.specs.Told.{bare_words_line}
 use Rattle.ds_drive.proofs.BareLemmas.{bare_cut, bare_faulty, bare_stopped}
 use Rattle.ds_drive.proofs.Coming.{run_cut_by, run_done, run_much, run_unended, run_untold, trace_done, trace_never_much, trace_unended, trace_untold}
@@ -257,7 +257,7 @@ returns-in-Ok-trace_request-clause-reads g c =
     (g.F.Files.asked c.args.files.now) (g.F.Files.asked c.trace_request.new.files) c.in-Ok-Ok-Trace.request asks c.in-Ok-trace_request.ensures.reads
 
 pub returns-in-Err-run_demo-clause-unended : goal.returns-in-Err-run_demo-clause-unended
-returns-in-Err-run_demo-clause-unended g c is = absurd (no_fault_is_unended (number_of c.in-Err-run_demo.fault) (sym c.tell.ensures.status ∙ is))
+returns-in-Err-run_demo-clause-unended g c is = absurd (no_fault_is_unended (fault_number c.in-Err-run_demo.fault) (sym c.tell.ensures.status ∙ is))
 
 pub returns-in-Err-run_request-clause-unended : goal.returns-in-Err-run_request-clause-unended
 returns-in-Err-run_request-clause-unended g c is =

@@ -2,10 +2,10 @@ use Rattle.std.proofs.Common.{◌≡◌, ◌∙◌, ℕ, List, ◌∷◌, [], ap
 use Rattle.std.specs.Prelude.{None}
 use Rattle.ds_drive.specs.declared.failure.Failure.{Failure}
 use Rattle.ds_drive.specs.declared.failure.Failure.TheVariants as failure
-use Rattle.ds_drive.specs.Failures.{IsUnreadRun}
+use Rattle.ds_drive.specs.Inner.Failures.{IsUnreadRun}
 use Rattle.ds_drive.proofs.HeldFiles.{are_held}
 use Rattle.ds_drive.specs.Inside.{outside_of}
-use Rattle.ds_drive.specs.Reading.{TellsOfRun}
+use Rattle.ds_drive.specs.Inner.Reading.{TellsOfRun}
 use Rattle.ds_drive.proofs.Readings.{both_read_until, input_unread_until, policy_unread_until, source_unread_until}
 use Rattle.ds_drive.proofs.Stops.{if_err_is, policy_unsound, source_unread}
 use Rattle.ds_drive.proofs.run.read_inputs.Goals as goal

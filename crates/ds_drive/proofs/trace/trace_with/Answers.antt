@@ -1,5 +1,6 @@
 use Rattle.ds_station.specs.Headline.{sources_seen}
-use Rattle.ds_drive.specs.Ran.{IsTraced, begun_by, first_by}
+use Rattle.ds_drive.specs.Ran.{IsTraced, first_by}
+use Rattle.ds_drive.specs.Inner.Ran.{begun_by}
 use Rattle.ds_drive.specs.TraceRuns.{TraceEndsThenBy}
 use Rattle.ds_drive.proofs.TraceLemmas.{with_placed}
 use Rattle.ds_drive.proofs.trace.trace_with.Goals as goal

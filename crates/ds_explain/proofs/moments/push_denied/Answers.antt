@@ -1,5 +1,5 @@
 use Rattle.std.proofs.Common.{sym}
-use Rattle.ds_log_reasons.specs.Sentences.{known_placed}
+use Rattle.ds_log_reasons.specs.Inner.Sentences.{known_placed}
 use Rattle.ds_explain.proofs.Units.{not_shown}
 use Rattle.ds_explain.proofs.moments.push_denied.Goals as goal
 

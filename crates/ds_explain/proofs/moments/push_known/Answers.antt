@@ -1,4 +1,4 @@
-use Rattle.ds_log_reasons.specs.Sentences.{known_placed}
+use Rattle.ds_log_reasons.specs.Inner.Sentences.{known_placed}
 use Rattle.ds_explain.proofs.Units.{known_refused}
 use Rattle.ds_explain.proofs.moments.push_known.Goals as goal
 

@@ -1,7 +1,7 @@
 use Rattle.std.proofs.Common.{List, ℕ, ◌++◌, sym, subst, take}
 use Rattle.ds_asm.specs.Assembly.{lines_of}
 use Rattle.ds_asm.proofs.SourceLines.{lines_of-first}
-use Rattle.ds_log_reasons.specs.Sentences.{known_placed}
+use Rattle.ds_log_reasons.specs.Inner.Sentences.{known_placed}
 use Rattle.ds_explain.specs.Moments.{AreTold}
 use Rattle.ds_explain.proofs.Telling.{some_left, told_end, told_more}
 use Rattle.ds_explain.proofs.moments.told_lines.Goals as goal

@@ -1,7 +1,7 @@
 use Rattle.std.proofs.Common.{List, ℕ, ◌++◌, take}
 use Rattle.ds_asm.specs.Assembly.{lines_of}
 use Rattle.ds_explain.specs.Moments.{AreTold}
-use Rattle.ds_log_reasons.specs.Sentences.{known_placed}
+use Rattle.ds_log_reasons.specs.Inner.Sentences.{known_placed}
 use Rattle.ds_explain.proofs.moments.told_lines.Given as goal
 
 -- what is told so far, with what will be told of the lines that are left, is told of all

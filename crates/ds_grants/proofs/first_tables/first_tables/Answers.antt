@@ -6,7 +6,7 @@ use Rattle.std.proofs.lemmas.List.{take_all}
 use Rattle.ds_policy.specs.declared.policy.PolicyRule.{PolicyRule}
 use Rattle.ds_policy.specs.FirstTable.{with_rules}
 use Rattle.ds_policy.specs.Pages.{Table, entry_at}
-use Rattle.ds_grants.specs.Represented.{HasWords}
+use Rattle.ds_grants.specs.Represented.{TablesHaveWords}
 use Rattle.ds_grants.proofs.FirstGrants.{rules_within}
 use Rattle.ds_grants.proofs.Lying.{by_table}
 use Rattle.ds_grants.proofs.RuleWords.{over, place_over, rule_written, nothing_written, written_as}
@@ -40,4 +40,4 @@ returns-clause-words c = λ empty g is in-order.
     let past : length c.args.rules.now ≤ c.loop-rule.rule-index = c.loop-rule-test.false in
     by_table c.loop-rule.memory c.loop-rule.tables (over (with_rules (replicate c.args.processes []) 1 c.args.rules.now)) g is
     (λ p a grant at. in-order p a grant at ∙ sym (place_over (with_rules (replicate c.args.processes []) 1 c.args.rules.now) grant.page (rules_within c.args.processes 1024 c.args.rules.now c.requires.good p a grant (ap (λ (t : Table). entry_at t p a) (sym is) ∙ at))))
-    (subst (λ (rs : List PolicyRule). HasWords c.loop-rule.memory c.loop-rule.tables (over (with_rules (replicate c.args.processes []) 1 rs))) (take_all c.loop-rule.rule-index c.args.rules.now past) (c.loop-rule.invariant.words empty))
+    (subst (λ (rs : List PolicyRule). TablesHaveWords c.loop-rule.memory c.loop-rule.tables (over (with_rules (replicate c.args.processes []) 1 rs))) (take_all c.loop-rule.rule-index c.args.rules.now past) (c.loop-rule.invariant.words empty))

@@ -1,6 +1,7 @@
 use Rattle.std.proofs.Common.{◌∙◌, ◌+◌, ap, refl, sym, drop}
-use Rattle.ds_tables.specs.Places.{Places, closed}
-use Rattle.ds_grants.specs.Changes.{all_closed}
+use Rattle.ds_tables.specs.Places.{Places}
+use Rattle.ds_tables.specs.Inner.Places.{closed}
+use Rattle.ds_grants.specs.Inner.Changes.{all_closed}
 use Rattle.ds_grants.proofs.Endings.{close_step, close_end}
 use Rattle.ds_grants.proofs.page_tables.close_all.Goals as goal
 

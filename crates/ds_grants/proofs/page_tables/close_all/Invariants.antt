@@ -1,5 +1,5 @@
 use Rattle.std.proofs.Common.{◌≡◌, drop}
-use Rattle.ds_grants.specs.Changes.{all_closed}
+use Rattle.ds_grants.specs.Inner.Changes.{all_closed}
 use Rattle.ds_grants.proofs.page_tables.close_all.Given as goal
 
 abbrev pub invariant-loop-entry : goal.invariant-loop-entry

@@ -1,6 +1,6 @@
 use Rattle.std.proofs.Common.{◌≡◌, drop}
-use Rattle.ds_grants.specs.Represented.{IsLow}
-use Rattle.ds_grants.specs.Rewords.{memory_of_row, buffer_of_row}
+use Rattle.ds_grants.specs.Inner.Represented.{IsLow}
+use Rattle.ds_grants.specs.Inner.Rewords.{memory_of_row, buffer_of_row}
 use Rattle.ds_grants.proofs.rewords.reword_row.Given as goal
 
 abbrev pub invariant-loop-entry : goal.invariant-loop-entry

@@ -1,6 +1,6 @@
 use Rattle.std.proofs.Common.{◌≡◌, ◌+◌, drop}
-use Rattle.ds_grants.specs.Represented.{IsLow}
-use Rattle.ds_grants.specs.Rewords.{memory_of_rows, buffer_of_rows}
+use Rattle.ds_grants.specs.Inner.Represented.{IsLow}
+use Rattle.ds_grants.specs.Inner.Rewords.{memory_of_rows, buffer_of_rows}
 use Rattle.ds_grants.proofs.rewords.reword_rows.Given as goal
 
 abbrev pub invariant-loop-index : goal.invariant-loop-index

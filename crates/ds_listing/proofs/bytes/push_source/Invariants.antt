@@ -1,6 +1,6 @@
 use Rattle.std.proofs.Common.{◌≡◌, ◌++◌, length}
 use Rattle.std.specs.String.{string_bytes}
-use Rattle.ds_listing.specs.Laws.{AreSaid}
+use Rattle.ds_listing.specs.Inner.Laws.{AreSaid}
 use Rattle.ds_listing.specs.NamedTexts.{bytes_as}
 use Rattle.ds_listing.proofs.bytes.push_source.Given as goal
 

@@ -1,6 +1,6 @@
 use Rattle.std.proofs.Common.{◌∙◌, ap}
-use Rattle.ds_isa.specs.Encoding.{entry}
-use Rattle.ds_listing.specs.Texts.{form_in}
+use Rattle.ds_isa.specs.Inner.Encoding.{entry}
+use Rattle.ds_listing.specs.Inner.Texts.{form_in}
 use Rattle.ds_listing.proofs.Forms.{form_of_entry}
 use Rattle.ds_listing.proofs.form.form_of.Goals as goal
 

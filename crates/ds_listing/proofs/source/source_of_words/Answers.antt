@@ -2,8 +2,8 @@ use Rattle.std.proofs.Common.{◌∙◌, ap, sym, subst, arith}
 use Rattle.std.proofs.lemmas.Grind.{common_steps}
 use Rattle.std.proofs.lemmas.List.{take_all, take_more}
 use Rattle.ds_asm.specs.Assembly.{assembled}
-use Rattle.ds_listing.specs.Laws.{EachIsRead}
-use Rattle.ds_listing.specs.Texts.{source_of}
+use Rattle.ds_listing.specs.Inner.Laws.{EachIsRead}
+use Rattle.ds_listing.specs.Inner.Texts.{source_of}
 use Rattle.ds_listing.proofs.Sources.{source_read, each_more}
 use Rattle.ds_listing.proofs.source.source_of_words.Goals as goal
 

@@ -1,7 +1,7 @@
 use Rattle.std.proofs.Common.{◌≡◌, take}
 use Rattle.std.specs.String.{string_bytes}
-use Rattle.ds_listing.specs.Laws.{EachIsRead}
-use Rattle.ds_listing.specs.Texts.{source_of}
+use Rattle.ds_listing.specs.Inner.Laws.{EachIsRead}
+use Rattle.ds_listing.specs.Inner.Texts.{source_of}
 use Rattle.ds_listing.proofs.source.source_of_words.Given as goal
 
 -- the words so far stand in the text, and each is read back

@@ -1,4 +1,4 @@
-use Rattle.ds_check.specs.Starts.{assembled}
+use Rattle.ds_check.specs.Inner.Starts.{assembled}
 use Rattle.ds_log_reasons.proofs.Paging.{page_placed}
 use Rattle.ds_log_reasons.proofs.places.pages_with.Goals as goal
 

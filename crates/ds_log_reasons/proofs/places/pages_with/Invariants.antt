@@ -1,5 +1,5 @@
 use Rattle.std.proofs.Common.{◌≡◌, ◌++◌, drop}
-use Rattle.ds_check.specs.Starts.{assembled}
+use Rattle.ds_check.specs.Inner.Starts.{assembled}
 use Rattle.ds_listing.specs.Pages.{plain_pages}
 use Rattle.ds_log_reasons.specs.Places.{pages_with}
 use Rattle.ds_log_reasons.proofs.places.pages_with.Given as goal

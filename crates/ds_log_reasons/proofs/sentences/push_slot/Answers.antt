@@ -1,7 +1,7 @@
 use Rattle.std.proofs.Common.{List, ℕ, ◌++◌, ◌∙◌, ap}
 use Rattle.ds_log_reasons.proofs.Adding.{gives, joined}
 use Rattle.ds_log_reasons.proofs.Slots.{in_slot}
-use Rattle.ds_log_reasons.specs.Sentences.{known_placed}
+use Rattle.ds_log_reasons.specs.Inner.Sentences.{known_placed}
 use Rattle.ds_log_reasons.proofs.sentences.push_slot.Goals as goal
 
 pub returns-in_ok-extend_from_slice : goal.returns-in_ok-extend_from_slice

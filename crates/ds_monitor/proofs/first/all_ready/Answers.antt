@@ -1,5 +1,5 @@
 use Rattle.std.proofs.Common.{◌∙◌, ◌+◌, ◌++◌, ◌∷◌, [], ap, List, ℕ, arith}
-use Rattle.ds_procs.specs.Queue.{without}
+use Rattle.ds_procs.specs.Inner.Queue.{without}
 use Rattle.ds_monitor.proofs.Beginning.{without_later, numbers_more}
 use Rattle.ds_monitor.proofs.first.all_ready.Goals as goal
 

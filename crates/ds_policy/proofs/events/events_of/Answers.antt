@@ -1,9 +1,10 @@
 use Rattle.std.proofs.Common.{◌∙◌, ◌+◌, sym, ap, subst, length, Result, Ok, rules}
 use Rattle.ds_word.specs.ResultBinding.{◌>>=◌}
-use Rattle.ds_policy.specs.Refusal.{IsUnread}
+use Rattle.ds_policy.specs.Inner.Refusal.{IsUnread}
 use Rattle.ds_policy.specs.declared.events.cause.InputReason.{InputReason}
 use Rattle.ds_policy.specs.InputText.{Said, with_lines, input_in, lines_of}
-use Rattle.ds_policy.specs.InputFacts.{AreGoodCommands, IsGoodInput}
+use Rattle.ds_policy.specs.InputFacts.{AreGoodCommands}
+use Rattle.ds_policy.specs.Inner.InputFacts.{IsGoodInput}
 use Rattle.ds_policy.proofs.Binds.{unread_at, unread_then}
 use Rattle.ds_policy.proofs.GoodInput.{good_input, good_commands}
 use Rattle.ds_policy.proofs.InputLineSteps.{lines_good, lines_bad, lines_end, rest_within}

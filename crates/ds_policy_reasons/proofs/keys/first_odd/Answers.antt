@@ -1,6 +1,7 @@
 use Rattle.std.proofs.Common.{◌+◌, ◌∙◌, sym, ap, length, option_map, rules}
 use Rattle.ds_asm.proofs.SourceLines.{lines_of-first, after_within}
-use Rattle.ds_policy_reasons.specs.Keys.{key_in, odd_one, plain_odd}
+use Rattle.ds_policy_reasons.specs.Keys.{key_in, odd_one}
+use Rattle.ds_policy_reasons.specs.Inner.Keys.{plain_odd}
 use Rattle.ds_policy_reasons.proofs.OddKeys.{found_in_line, passed_line, no_line}
 use Rattle.ds_policy_reasons.proofs.keys.first_odd.Goals as goal
 

@@ -1,5 +1,6 @@
 use Rattle.std.proofs.Common.{◌≡◌, ◌≤◌, ◌<◌, take, length}
-use Rattle.ds_refill.specs.Handler.{words, with_words}
+use Rattle.ds_refill.specs.Handler.{words}
+use Rattle.ds_refill.specs.Inner.Handler.{with_words}
 use Rattle.ds_refill.proofs.handler.install.Given as goal
 
 abbrev pub invariant-loop-k : goal.invariant-loop-k

@@ -1,6 +1,7 @@
 use Rattle.std.proofs.Common.{◌+◌, ◌∙◌, sym, ap, length, option_map, rules}
 use Rattle.ds_asm.proofs.SourceLines.{lines_of-first, after_within}
-use Rattle.ds_source_reasons.specs.Missing.{like_in, plain_labelled}
+use Rattle.ds_source_reasons.specs.Missing.{like_in}
+use Rattle.ds_source_reasons.specs.Inner.Missing.{plain_labelled}
 use Rattle.ds_source_reasons.proofs.Labels.{found_in_line, passed_line, no_line}
 use Rattle.ds_source_reasons.proofs.missing.first_like.Goals as goal
 

@@ -4,8 +4,8 @@ use Rattle.ds_pagemap.specs.First.{first_state}
 use Rattle.ds_pagemap.specs.Inputs.{Sources, images_from, inputs_under}
 use Rattle.ds_refinement.specs.First.{IsFirst}
 use Rattle.ds_refinement.specs.Stands.{Stands}
-use Rattle.ds_station.specs.Faults.{of_events}
-use Rattle.ds_station.specs.Headline.{BeginsWith, Refuses, loaded, sources_seen}
+use Rattle.ds_station.specs.Inner.Faults.{of_events}
+use Rattle.ds_station.specs.Headline.{BeginsWith, Refuses, loaded_with, sources_seen}
 use Rattle.ds_station.specs.declared.fault.Fault.TheVariants.{BadRandom}
 use Rattle.ds_station.proofs.Preparing.{refused_by_image, under_images, refused_by_input, under_input, refused_by_ticks, under_all, of_first_state, prepared, unprepared_by, ok_is_no_err}
 use Rattle.ds_station.proofs.files.prepare.Goals as goal
@@ -54,8 +54,8 @@ pub returns-in-Ok-new-clause-real : goal.returns-in-Ok-new-clause-real
 returns-in-Ok-new-clause-real c =
     let s = sources_seen c.args.sources.now in
     let images = images_are s _ (sources_of c.args.policy.now.pages) c.in-Ok.images.items c.sources.ensures.all c.in-Ok.ensures.images in
-    let is = under_all loaded c.args.policy.now c.in-Ok.images.items c.in-Ok-read.events s c.args.input.now c.args.n c.args.random images c.in-Ok-read.ensures.exact c.if-n-gt-MOST_TICKS.false in
-    prepared loaded (BeginsWith c.args.random c.in-Ok-new.station.held) _ c.args.policy.now c.in-Ok.images.items c.in-Ok-read.events c.args.random is
+    let is = under_all loaded_with c.args.policy.now c.in-Ok.images.items c.in-Ok-read.events s c.args.input.now c.args.n c.args.random images c.in-Ok-read.ensures.exact c.if-n-gt-MOST_TICKS.false in
+    prepared loaded_with (BeginsWith c.args.random c.in-Ok-new.station.held) _ c.args.policy.now c.in-Ok.images.items c.in-Ok-read.events c.args.random is
     (subst (λ (xs : List (List ℕ)). IsFirst c.args.policy.now xs c.in-Ok-read.events c.args.random c.in-Ok-new.station.held) c.deref.ensures.value c.in-Ok-new.ensures.begins)
     (λ b. ok_is_no_err c.in-Ok-new.station BadRandom (c.in-Ok-new.ensures.refused b))
 

@@ -1,7 +1,7 @@
 use Rattle.std.proofs.Common.{Err}
 use Rattle.ds_pagemap.specs.Inputs.{inputs}
-use Rattle.ds_station.specs.Faults.{of_policy}
-use Rattle.ds_station.specs.Headline.{Along, Followed, loaded, sources_seen}
+use Rattle.ds_station.specs.Inner.Faults.{of_policy}
+use Rattle.ds_station.specs.Headline.{Along, Followed, loaded_with, sources_seen}
 use Rattle.ds_station.proofs.Headlines.{refused_unasked, refused_unwritten, refused_really, refused_only, keeps_same}
 use Rattle.ds_station.proofs.Preparing.{refused_by_policy, under_policy, under_policy_by}
 use Rattle.ds_station.proofs.Guarded.{files_guarded_if, files_cut_if}
@@ -40,7 +40,7 @@ returns-clause-ok g c =
 
 pub returns-clause-real : goal.returns-clause-real
 returns-clause-real g c =
-    rw (under_policy_by loaded c.in-Ok.policy c.args.policy.now (sources_seen c.args.sources.now) c.args.input.now c.args.n c.args.random c.in-Ok.ensures) c.run_policy.ensures.real
+    rw (under_policy_by loaded_with c.in-Ok.policy c.args.policy.now (sources_seen c.args.sources.now) c.args.input.now c.args.n c.args.random c.in-Ok.ensures) c.run_policy.ensures.real
 
 pub returns-clause-err : goal.returns-clause-err
 returns-clause-err g c =
@@ -48,15 +48,15 @@ returns-clause-err g c =
 
 pub returns-clause-cut : goal.returns-clause-cut
 returns-clause-cut g c =
-    rw (under_policy_by loaded c.in-Ok.policy c.args.policy.now (sources_seen c.args.sources.now) c.args.input.now c.args.n c.args.random c.in-Ok.ensures) c.run_policy.ensures.cut
+    rw (under_policy_by loaded_with c.in-Ok.policy c.args.policy.now (sources_seen c.args.sources.now) c.args.input.now c.args.n c.args.random c.in-Ok.ensures) c.run_policy.ensures.cut
 
 pub returns-clause-followed : goal.returns-clause-followed
 returns-clause-followed g c =
-    rw (under_policy_by loaded c.in-Ok.policy c.args.policy.now (sources_seen c.args.sources.now) c.args.input.now c.args.n c.args.random c.in-Ok.ensures) c.run_policy.ensures.followed
+    rw (under_policy_by loaded_with c.in-Ok.policy c.args.policy.now (sources_seen c.args.sources.now) c.args.input.now c.args.n c.args.random c.in-Ok.ensures) c.run_policy.ensures.followed
 
 pub returns-clause-followed_so_far : goal.returns-clause-followed_so_far
 returns-clause-followed_so_far g c =
-    rw (under_policy_by loaded c.in-Ok.policy c.args.policy.now (sources_seen c.args.sources.now) c.args.input.now c.args.n c.args.random c.in-Ok.ensures) c.run_policy.ensures.followed_so_far
+    rw (under_policy_by loaded_with c.in-Ok.policy c.args.policy.now (sources_seen c.args.sources.now) c.args.input.now c.args.n c.args.random c.in-Ok.ensures) c.run_policy.ensures.followed_so_far
 
 pub returns-clause-refused : goal.returns-clause-refused
 returns-clause-refused g c = refused_only c.run_policy.result _ _ _ c.args.n (returns-clause-ok g c) (returns-clause-err g c)

@@ -1,6 +1,6 @@
 use Rattle.std.proofs.Common.{Bool, Result, subst}
 use Rattle.ds_log.specs.Sent.{IsAskedOnce}
-use Rattle.ds_station.specs.Station.{StationValue}
+use Rattle.ds_station.specs.Inner.Station.{StationValue}
 use Rattle.ds_station.specs.Faults.{is_unwritten}
 use Rattle.ds_station.specs.declared.fault.Fault.{Fault}
 use Rattle.ds_station.proofs.Outcomes.{unwritten_alike, writes_of}

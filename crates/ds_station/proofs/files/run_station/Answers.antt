@@ -5,7 +5,7 @@ use Rattle.ds_pagemap.specs.Inputs.{Sources, inputs_under, inputs_under_by}
 use Rattle.ds_refinement.specs.Held.{Held}
 use Rattle.ds_refinement.specs.Real.{RealPath}
 use Rattle.ds_refinement.specs.Stands.{Stands}
-use Rattle.ds_station.specs.Headline.{Along, Begins, BeginsWith, Followed, Refuses, loaded}
+use Rattle.ds_station.specs.Headline.{Along, Begins, BeginsWith, Followed, Refuses, loaded_with}
 use Rattle.ds_station.proofs.Along.{begun_stands, runs_along}
 use Rattle.ds_station.proofs.Headlines.{refused_unasked, ran_asked, really_if, ran_short, part_written, cut_really, part_really, refused_really, refused_only, keeps_same}
 use Rattle.ds_station.proofs.Guarded.{policy_guarded_if, policy_cut_if}
@@ -19,7 +19,7 @@ use Rattle.ds_station.specs.declared.fault.Fault.TheVariants as fault
 use Rattle.ds_station.proofs.files.run_station.Goals as goal
 
 -- a station that was prepared stands for the first state of what it began with
-abbrev along : (policy : PolicyValue) (s : Sources) (input : List ℕ) (n r : ℕ) (h : Held) → Begins (inputs_under policy s input n r) (Stands h) → (b : Begins (inputs_under_by loaded policy s input n r) (BeginsWith r h)) → (x : Held) → RealPath h x → Along b.0 h x
+abbrev along : (policy : PolicyValue) (s : Sources) (input : List ℕ) (n r : ℕ) (h : Held) → Begins (inputs_under policy s input n r) (Stands h) → (b : Begins (inputs_under_by loaded_with policy s input n r) (BeginsWith r h)) → (x : Held) → RealPath h x → Along b.0 h x
 along policy s input n r h a b x path = runs_along (first_state b.0.policy b.0.images b.0.input) h x (begun_stands policy s input n r h a b) path
 
 -- The run came to its end, and its text is written.

@@ -1,5 +1,5 @@
 use Rattle.std.proofs.Common.{◌≡◌, ◌+◌, ◌-◌, ◌++◌, length}
-use Rattle.ds_trace.specs.Shows.{processes_held}
+use Rattle.ds_trace.specs.Inner.Shows.{processes_held}
 use Rattle.ds_trace.proofs.Scanning.{seen}
 use Rattle.ds_trace.proofs.ends.push_processes.Given as goal
 

@@ -1,7 +1,7 @@
 use Rattle.std.proofs.Common.{Err}
 use Rattle.ds_pagemap.specs.Inputs.{inputs}
-use Rattle.ds_station.specs.Faults.{of_policy}
-use Rattle.ds_station.specs.Headline.{loaded, sources_seen}
+use Rattle.ds_station.specs.Inner.Faults.{of_policy}
+use Rattle.ds_station.specs.Headline.{loaded_with, sources_seen}
 use Rattle.ds_station.proofs.Headlines.{keeps_same, refused_unasked}
 use Rattle.ds_station.proofs.Preparing.{refused_by_policy, under_policy, under_policy_by}
 use Rattle.ds_trace.proofs.Inputs.{refused_really, refused_untold, refused_only}
@@ -32,11 +32,11 @@ returns-clause-err g c =
 
 pub returns-clause-real : goal.returns-clause-real
 returns-clause-real g c =
-    rw (under_policy_by loaded c.in-Ok.policy c.args.policy.now (sources_seen c.args.sources.now) c.args.input.now c.args.n c.args.random c.in-Ok.ensures) c.trace_policy.ensures.real
+    rw (under_policy_by loaded_with c.in-Ok.policy c.args.policy.now (sources_seen c.args.sources.now) c.args.input.now c.args.n c.args.random c.in-Ok.ensures) c.trace_policy.ensures.real
 
 pub returns-clause-cut : goal.returns-clause-cut
 returns-clause-cut g c =
-    rw (under_policy_by loaded c.in-Ok.policy c.args.policy.now (sources_seen c.args.sources.now) c.args.input.now c.args.n c.args.random c.in-Ok.ensures) c.trace_policy.ensures.cut
+    rw (under_policy_by loaded_with c.in-Ok.policy c.args.policy.now (sources_seen c.args.sources.now) c.args.input.now c.args.n c.args.random c.in-Ok.ensures) c.trace_policy.ensures.cut
 
 pub returns-clause-refused : goal.returns-clause-refused
 returns-clause-refused g c = refused_only c.trace_policy.result c.args.view.now _ _ _ c.args.n (returns-clause-ok g c) (returns-clause-err g c)

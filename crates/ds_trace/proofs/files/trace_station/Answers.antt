@@ -2,7 +2,7 @@ use Rattle.std.proofs.Common.{◌≡◌, Ok, Err, subst, sym, ◌∙◌}
 use Rattle.ds_station.specs.Headline.{Refuses, sources_seen}
 use Rattle.ds_station.proofs.Headlines.{keeps_same, refused_unasked}
 use Rattle.ds_station.proofs.Outcomes.{if_err}
-use Rattle.ds_station.specs.Station.{StationValue}
+use Rattle.ds_station.specs.Inner.Station.{StationValue}
 use Rattle.ds_trace.proofs.Asking.{asked_same}
 use Rattle.ds_trace.proofs.Inputs.{begins_at, cut_really, refused_really, refused_untold, refused_only, told_ok, told_err, told_really}
 use Rattle.ds_trace.proofs.files.trace_station.Goals as goal

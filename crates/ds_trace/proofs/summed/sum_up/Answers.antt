@@ -1,6 +1,6 @@
 use Rattle.std.proofs.Common.{Option, subst}
 use Rattle.ds_station.specs.declared.fault.Fault.{Fault}
-use Rattle.ds_trace.specs.Summed.{CountsAll}
+use Rattle.ds_trace.specs.Inner.Summed.{CountsAll}
 use Rattle.ds_trace.proofs.summed.sum_up.Goals as goal
 
 pub returns-in-None-clause-ok : goal.returns-in-None-clause-ok

@@ -2,7 +2,7 @@ use Rattle.std.proofs.Common.{rules}
 use Rattle.ds_log.proofs.Sends.{at_err}
 use Rattle.ds_station.proofs.Headlines.{keeps_same}
 use Rattle.ds_station.specs.Headline.{held_text}
-use Rattle.ds_trace.specs.Shows.{end_held}
+use Rattle.ds_trace.specs.Inner.Shows.{end_held}
 use Rattle.ds_trace.proofs.Following.{cut_text, cut_trace, never_short, part_none, short_err, short_is}
 use Rattle.ds_trace.proofs.trace.finish.Goals as goal
 

@@ -2,14 +2,15 @@ use Rattle.std.proofs.Common.{◌≡◌, true, false, Bool, ℕ, Result, Ok, sym
 use Rattle.std.specs.Prelude.{OnErr, is_some, nat_lt, ◌||◌}
 use Rattle.ds_log.proofs.Sends.{asked_both, at_err}
 use Rattle.ds_refinement.specs.Held.{Held}
-use Rattle.ds_refinement.specs.Runs.{RunsWithin, held_goes_on}
-use Rattle.ds_station.specs.Faults.{IsFaultAfter, IsNewFault}
+use Rattle.ds_refinement.specs.Runs.{held_goes_on}
+use Rattle.ds_refinement.specs.Inner.Runs.{RunsWithin}
+use Rattle.ds_station.specs.Inner.Faults.{IsFaultAfter, IsNewFault}
 use Rattle.ds_station.proofs.Headlines.{keeps_same}
 use Rattle.ds_station.specs.declared.fault.Fault.{Fault}
 use Rattle.ds_trace.specs.Looks.{Looked}
-use Rattle.ds_trace.specs.Advanced.{Advances, HasStepped, HasHalted}
+use Rattle.ds_trace.specs.Inner.Advanced.{Advances, HasStepped, HasHalted}
 use Rattle.ds_trace.proofs.Following.{cut_counted, cut_early, cut_lines, cut_part, cut_spent, end_told, first_told, first_within, halted_cut, halted_told, handed_told, last_counting, last_told, never_short, nothing_lines, nothing_part, part_none, ran_whole, ran_within, short_err, short_is, step_counting, step_on, step_owed, step_told}
-use Rattle.ds_trace.specs.Counted.{CountsStep, WatchesAfter}
+use Rattle.ds_trace.specs.Inner.Counted.{CountsStep, WatchesAfter}
 use Rattle.ds_trace.specs.Processors.{window_end}
 use Rattle.ds_trace.proofs.Processing.{counting_cut, counting_done, counting_few, counting_first, counting_path, watched_first}
 use Rattle.ds_trace.proofs.Asking.{asked_none}

@@ -1,11 +1,11 @@
 use Rattle.std.proofs.Common.{◌≡◌, ◌<◌, false}
 use Rattle.std.specs.Prelude.{is_some}
-use Rattle.ds_kernel.specs.Going.{rank}
+use Rattle.ds_kernel.specs.Inner.Going.{rank}
 use Rattle.ds_log.specs.Sent.{IsAskedOnce}
-use Rattle.ds_refinement.specs.Stands.{IsSound}
+use Rattle.ds_refinement.specs.Inner.Stands.{IsSound}
 use Rattle.ds_trace.specs.Processors.{told_from, window_end}
-use Rattle.ds_trace.specs.Counted.{IsCounting}
-use Rattle.ds_trace.specs.Shows.{TellsSo}
+use Rattle.ds_trace.specs.Inner.Counted.{IsCounting}
+use Rattle.ds_trace.specs.Inner.Shows.{TellsSo}
 use Rattle.ds_trace.proofs.trace.follow.Given as goal
 
 abbrev pub invariant-loop-station : goal.invariant-loop-station

@@ -6,8 +6,8 @@ use Rattle.ds_log.proofs.Sends.{asked_both, at_err}
 use Rattle.ds_station.specs.Headline.{held_text}
 use Rattle.ds_station.proofs.Headlines.{keeps_same}
 use Rattle.ds_station.specs.declared.fault.Fault.{Fault}
-use Rattle.ds_trace.specs.Handed.{IsFinished}
-use Rattle.ds_trace.specs.Shows.{TellsAll, end_held}
+use Rattle.ds_trace.specs.Inner.Handed.{IsFinished}
+use Rattle.ds_trace.specs.Inner.Shows.{TellsAll, end_held}
 use Rattle.ds_trace.proofs.Following.{all_part, cut_lines, cut_part, cut_traces, finished_traces, halted_traces, lines_short, part_none, short_err, short_is}
 use Rattle.ds_trace.proofs.Asking.{asked_short_of}
 use Rattle.ds_trace.proofs.trace.tell.Goals as goal

@@ -4,7 +4,7 @@ ghost use Rattle.std.specs.Prelude.{◌≡◌, ◌+◌, ◌<◌, ◌≤◌};
 use super::STEPS;
 use super::dice::Dice;
 use super::start::{FIRST_PAGE, PAGES, Start};
-use super::turn::Turn;
+use super::turn::Change;
 use super::words::random_word;
 use crate::programs::lockstep::{are_frames_alike, go_alike, step_both};
 use crate::programs::machine::Machine;
@@ -163,9 +163,9 @@ impl<A: Lookaside, B: Lookaside> Pair<A, B> {
 }
 
 /// What is done after steps, of which the last may have raised an exception that goes back to `epc`.
-fn turn_after(dice: &mut Dice, start: &Start, raised: Option<ExceptionCode>, epc: u32) -> Turn {
+fn turn_after(dice: &mut Dice, start: &Start, raised: Option<ExceptionCode>, epc: u32) -> Change {
     match raised {
-        Some(code) => Turn::after_exception(dice, start, code, epc),
-        None => Turn::after_calm(dice, start),
+        Some(code) => Change::after_exception(dice, start, code, epc),
+        None => Change::after_calm(dice, start),
     }
 }

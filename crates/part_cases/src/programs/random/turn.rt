@@ -9,7 +9,7 @@ use ds_tlb::{Entry, Lookaside};
 
 /// What is done to both machines before they run on.
 #[derive(Clone, Copy)]
-pub enum Turn {
+pub enum Change {
     /// Nothing: after an exception its handler goes on.
     GoOn,
     /// The exception is served.
@@ -29,31 +29,36 @@ pub enum Turn {
     },
 }
 
-impl Turn {
+impl Change {
     /// A random one after steps that ended without an exception.
-    pub fn after_calm(dice: &mut Dice, start: &Start) -> Turn {
+    pub fn after_calm(dice: &mut Dice, start: &Start) -> Change {
         match dice.below(8) {
-            0 | 1 => Turn::moved(dice, start),
-            2 => Turn::mapped(dice),
-            _ => Turn::GoOn,
+            0 | 1 => Change::moved(dice, start),
+            2 => Change::mapped(dice),
+            _ => Change::GoOn,
         }
     }
 
     /// A random one after an exception, which goes back to `epc`.
-    pub fn after_exception(dice: &mut Dice, start: &Start, code: ExceptionCode, epc: u32) -> Turn {
+    pub fn after_exception(
+        dice: &mut Dice,
+        start: &Start,
+        code: ExceptionCode,
+        epc: u32,
+    ) -> Change {
         if dice.below(16) == 0 {
-            Turn::GoOn
+            Change::GoOn
         } else if epc.wrapping_sub(FIRST_ADDRESS) < CODE_SIZE {
-            Turn::Serve(code)
+            Change::Serve(code)
         } else {
-            Turn::moved(dice, start)
+            Change::moved(dice, start)
         }
     }
 
     /// To another place.
-    fn moved(dice: &mut Dice, start: &Start) -> Turn {
+    fn moved(dice: &mut Dice, start: &Start) -> Change {
         let cause = if dice.below(8) == 0 { dice.word() } else { 0 };
-        Turn::Move {
+        Change::Move {
             place: place(dice),
             entry_hi: (dice.below(2) + 1) * 64,
             status: start.status,
@@ -63,10 +68,10 @@ impl Turn {
 
     /// Another entry for one of the program's pages, in a slot that is searched before most of the
     /// program's own, or in place of one.
-    fn mapped(dice: &mut Dice) -> Turn {
+    fn mapped(dice: &mut Dice) -> Change {
         let vpn = FIRST_PAGE + dice.below(PAGES);
         let asid = dice.below(2) as u8 + 1;
-        Turn::Map {
+        Change::Map {
             slot: dice.below(24),
             entry: entry(dice, vpn, asid),
         }
@@ -82,14 +87,14 @@ fn set_system(cp0: &mut Cp0, entry_hi: u32, status: u32, cause: u32) {
 
 impl<L: Lookaside> Machine<L> {
     /// Does a turn, after so many steps.
-    pub fn turn(&mut self, turn: Turn, steps: u32)
+    pub fn turn(&mut self, turn: Change, steps: u32)
         requires slots { L.SLOTS ≡ 64 }
     {
         self.bus.pass(u64::from(steps));
         match turn {
-            Turn::GoOn => {}
-            Turn::Serve(code) => self.serve(code),
-            Turn::Move {
+            Change::GoOn => {}
+            Change::Serve(code) => self.serve(code),
+            Change::Move {
                 place,
                 entry_hi,
                 status,
@@ -98,7 +103,7 @@ impl<L: Lookaside> Machine<L> {
                 set_system(&mut self.core.cp0, entry_hi, status, cause);
                 self.go_on_at(place);
             }
-            Turn::Map { slot, entry } => self.core.tlb.write(slot as usize % 64, entry),
+            Change::Map { slot, entry } => self.core.tlb.write(slot as usize % 64, entry),
         }
     }
 }

@@ -1,5 +1,5 @@
 use Rattle.std.proofs.Common.{◌≡◌, ◌∙◌, sym, ap, length, replicate, min, ◌*◌, List, ℕ, arith, vec_len}
-use Rattle.ds_asm.specs.Images.{part_of}
+use Rattle.ds_asm.specs.Images.{page_of_image}
 use Rattle.ds_asm.proofs.Pages.{part_of-filled}
 use Rattle.ds_asm.proofs.image.Image.page.Goals as goal
 
@@ -10,4 +10,4 @@ returns c =
     let start : c.min-start.result ≡ min (4096 * c.args.part) (length c.deref.result.now) = c.min-start.ensures ∙ ap (min (4096 * c.args.part)) (c.len.ensures ∙ (size ∙ ap length (sym c.deref.ensures.value))) in
     part_of-filled c.deref.result.now c.args.part c.min-start.result c.min-count.result c.fill.new.self c.copy_from_slice.new.self start c.min-count.ensures c.copy_from_slice.ensures.after
     (c.fill.ensures.after (λ y e. e) ∙ ap (λ (n : ℕ). replicate n 0) c.requires)
-    ∙ ap (λ (xs : List ℕ). part_of xs c.args.part) bytes
+    ∙ ap (λ (xs : List ℕ). page_of_image xs c.args.part) bytes

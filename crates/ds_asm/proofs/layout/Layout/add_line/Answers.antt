@@ -1,6 +1,6 @@
 use Rattle.std.proofs.Common.{◌∙◌, sym, refl}
 use Rattle.ds_asm.specs.Lines.{line_of}
-use Rattle.ds_asm.specs.Plain.{plain_line}
+use Rattle.ds_asm.specs.Inner.Plain.{plain_line}
 use Rattle.ds_asm.proofs.SourceLines.{line_laid}
 use Rattle.ds_asm.proofs.layout.Layout.add_line.Goals as goal
 

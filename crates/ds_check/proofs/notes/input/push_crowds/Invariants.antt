@@ -1,11 +1,11 @@
 use Rattle.std.proofs.Common.{◌≡◌, ◌≤◌, ◌-◌, ◌++◌, length}
-use Rattle.ds_check.specs.InputNotes.{crowds, crowds_behind}
+use Rattle.ds_check.specs.InputNotes.{crowds, crowds_after}
 use Rattle.ds_check.proofs.notes.input.push_crowds.Given as goal
 
 -- what was found, and what the characters that are left add behind those of their time, are all crowds
 abbrev pub invariant-loop-character : goal.invariant-loop-character
 invariant-loop-character l = record {
-  found : l.found.items ++ crowds_behind (l.left - length l.events.characters) l.events.characters ≡ l.fn.found.items ++ crowds l.fn.events.characters;
+  found : l.found.items ++ crowds_after (l.left - length l.events.characters) l.events.characters ≡ l.fn.found.items ++ crowds l.fn.events.characters;
   within : length l.events.characters ≤ l.left;
 }
 

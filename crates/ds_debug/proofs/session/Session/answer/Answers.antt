@@ -4,7 +4,8 @@ use Rattle.ds_packets.specs.declared.packet.Packet.{Packet}
 use Rattle.ds_packets.specs.declared.packet.Refusal.{Refusal}
 use Rattle.ds_refinement.proofs.RunSteps.{within_start}
 use Rattle.ds_station.proofs.InPieces.{no_steps}
-use Rattle.ds_debug.specs.Answering.{Answers, AnswersBy, TellsOf, goes_back_by}
+use Rattle.ds_debug.specs.Answering.{Answers, AnswersBy}
+use Rattle.ds_debug.specs.Inner.Answering.{TellsOf, goes_back_by}
 use Rattle.ds_debug.specs.Sessions.{SessionState}
 use Rattle.ds_debug.proofs.Looking.{looks, on_ok}
 use Rattle.ds_debug.proofs.session.Session.answer.Goals as goal

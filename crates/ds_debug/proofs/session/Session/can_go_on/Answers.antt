@@ -1,6 +1,6 @@
 use Rattle.std.proofs.Common.{◌≡◌, Bool, true, false, refl, subst}
 use Rattle.std.specs.Prelude.{not}
-use Rattle.ds_debug.specs.Inputs.{IsReached}
+use Rattle.ds_debug.specs.Inner.Inputs.{IsReached}
 use Rattle.ds_debug.specs.Sessions.{SessionState}
 use Rattle.ds_debug.proofs.session.Session.can_go_on.Goals as goal
 

@@ -1,6 +1,6 @@
 use Rattle.std.proofs.Common.{◌≡◌, position, ◌∙◌, ap, subst}
 use Rattle.ds_packets.specs.declared.packet.Packet.TheVariants.{Unwatch}
-use Rattle.ds_debug.specs.Inputs.{inputs_seen}
+use Rattle.ds_debug.specs.Inner.Inputs.{inputs_seen}
 use Rattle.ds_debug.specs.Sessions.{SessionState, after_setting, is_same_watch}
 use Rattle.ds_debug.proofs.Settings.{unwatch_none}
 use Rattle.ds_debug.proofs.session.Session.drop_watch.Goals as goal

@@ -1,6 +1,6 @@
 use Rattle.std.proofs.Common.{ℕ, ◌≤◌, Option, sym, subst}
 use Rattle.std.specs.Prelude.{IfSome}
-use Rattle.ds_debug.specs.Inputs.{inputs_seen}
+use Rattle.ds_debug.specs.Inner.Inputs.{inputs_seen}
 use Rattle.ds_debug.specs.Sessions.{SessionState}
 use Rattle.ds_debug.proofs.Returning.{reached_at}
 use Rattle.ds_debug.proofs.session.Session.go_back_to.Goals as goal

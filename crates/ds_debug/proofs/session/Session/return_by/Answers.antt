@@ -1,6 +1,6 @@
 use Rattle.std.proofs.Common.{◌≡◌, ◌≤◌, ℕ, sym, ap, subst, ◌∙◌}
 use Rattle.std.specs.Prelude.{IfSome}
-use Rattle.ds_debug.specs.Backward.{until_of}
+use Rattle.ds_debug.specs.Backward.{looked_until}
 use Rattle.ds_debug.specs.Places.{earlier}
 use Rattle.ds_debug.specs.Sessions.{SessionState}
 use Rattle.ds_debug.specs.Times.{asked_place}
@@ -10,8 +10,8 @@ use Rattle.ds_debug.proofs.session.Session.return_by.Goals as goal
 pub asked_place-place-requires-clause-early : goal.asked_place-place-requires-clause-early
 asked_place-place-requires-clause-early c =
     let inside = c.self.inside in
-    let until : c.earlier-until.result ≡ until_of c.args.self.now =
-    until_alike c.earlier-until.result c.time-time.result inside.station.held.kept.state.time inside.limit c.earlier-until.ensures.value c.time-time.ensures.held ∙ ap until_of c.self.view_is in
+    let until : c.earlier-until.result ≡ looked_until c.args.self.now =
+    until_alike c.earlier-until.result c.time-time.result inside.station.held.kept.state.time inside.limit c.earlier-until.ensures.value c.time-time.ensures.held ∙ ap looked_until c.self.view_is in
     subst (λ (t : ℕ). IfSome c.in-Ok.found (λ p. p.time ≤ t)) (sym until) c.in-Ok.ensures.early
 
 pub go_back_to-requires-clause-early : goal.go_back_to-requires-clause-early

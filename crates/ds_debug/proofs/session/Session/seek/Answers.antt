@@ -2,7 +2,7 @@ use Rattle.std.proofs.Common.{◌≡◌, ◌≤◌, ℕ, List, [], Option, Some,
 use Rattle.std.specs.Prelude.{IfSome}
 use Rattle.ds_packets.specs.declared.packet.Action.{Action}
 use Rattle.ds_packets.specs.declared.packet.Action.TheVariants.{Continue}
-use Rattle.ds_debug.specs.Backward.{FindsIn, until_of}
+use Rattle.ds_debug.specs.Backward.{FindsIn, looked_until}
 use Rattle.ds_debug.specs.Goals.{goal_with}
 use Rattle.ds_debug.specs.Places.{earlier}
 use Rattle.ds_debug.specs.Resumes.{actions_by, goal_of}
@@ -15,7 +15,7 @@ returns-in-Ok-find_last-clause-finds c =
     let inside = c.self.inside in
     let actions : List (Option Action) = actions_by (Some Continue) inside.going [] in
     let listed : c.as_slice.result.now ≡ c.in_ok-actions.actions.items = c.as_slice.ensures.value in
-    subst (λ (s : SessionState). FindsIn s.inputs s.limit c.args.sought (goal_of (Some Continue) [] s) (until_of s) c.in-Ok-find_last.place) c.self.view_is
+    subst (λ (s : SessionState). FindsIn s.inputs s.limit c.args.sought (goal_of (Some Continue) [] s) (looked_until s) c.in-Ok-find_last.place) c.self.view_is
     (record {
       start = c.in-Ok.station.held;
       last = c.find_last.new.station.held;
@@ -29,6 +29,6 @@ returns-in-Ok-find_last-clause-finds c =
 pub returns-in-Ok-find_last-clause-early : goal.returns-in-Ok-find_last-clause-early
 returns-in-Ok-find_last-clause-early c =
     let inside = c.self.inside in
-    subst (λ (s : SessionState). IfSome c.in-Ok-find_last.place (λ p. p.time ≤ until_of s)) c.self.view_is
+    subst (λ (s : SessionState). IfSome c.in-Ok-find_last.place (λ p. p.time ≤ looked_until s)) c.self.view_is
     (subst (λ (t : ℕ). IfSome c.in-Ok-find_last.place (λ p. p.time ≤ t))
     (until_alike c.earlier-until.result c.time.result inside.station.held.kept.state.time inside.limit c.earlier-until.ensures.value c.time.ensures.held) c.in-Ok-find_last.ensures.early)

@@ -4,7 +4,8 @@ use Rattle.std.specs.Io.KnownBytes.{Appends}
 use Rattle.ds_log.specs.Sent.{AppendsPart}
 use Rattle.ds_log.proofs.Sends.{err_gives, ok_gives}
 use Rattle.ds_packets.specs.declared.scan.PacketFault.{PacketFault}
-use Rattle.ds_debug.specs.Serving.{IsCutAt, WritesFront, WritesSo}
+use Rattle.ds_debug.specs.Serving.{WritesSo}
+use Rattle.ds_debug.specs.Inner.Serving.{IsCutAt, WritesFront}
 use Rattle.ds_debug.specs.Streams.{ExchangeState, HearsLive, HearsWords, mark_text}
 use Rattle.ds_debug.proofs.Served.{ended_written, live_cut, live_written, refused_cut, refused_written}
 use Rattle.ds_debug.proofs.stream.Exchange.serve_item.Goals as goal

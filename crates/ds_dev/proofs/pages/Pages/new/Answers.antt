@@ -1,5 +1,5 @@
 use Rattle.std.proofs.Common.{◌≡◌, ◌∙◌, None, replicate, ap, arith}
-use Rattle.ds_dev.specs.Known.{Room}
+use Rattle.ds_dev.specs.Inner.Known.{Room}
 use Rattle.ds_dev.proofs.pages.Pages.new.Goals as goal
 
 pub returns : goal.returns

@@ -1,8 +1,8 @@
 use Rattle.std.proofs.Common.{◌≡◌, ◌<◌, ◌∙◌, ℕ, true, Some, refl, sym, ap, subst}
 use Rattle.ds_policy.specs.Pages.{entry_at}
 use Rattle.ds_grants.specs.State.{GrantsState, is_live}
-use Rattle.ds_grants.specs.Counts.{page_of}
-use Rattle.ds_grants.specs.Copies.{LiesOtherwise}
+use Rattle.ds_grants.specs.Inner.Counts.{page_of}
+use Rattle.ds_grants.specs.Inner.Copies.{LiesOtherwise}
 use Rattle.ds_grants.specs.contracts.grants.Grants.{the_view}
 use Rattle.ds_grants.proofs.Kept.{high_kept}
 use Rattle.ds_grants.proofs.Living.{low_pages}

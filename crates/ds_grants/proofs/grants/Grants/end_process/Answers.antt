@@ -1,7 +1,7 @@
 use Rattle.std.proofs.Common.{◌≤◌, ◌∙◌, ◌+◌, ◌-◌, true, length, slice_index, refl, sym, subst, ap}
 use Rattle.ds_policy.proofs.Entries.{refill_set}
 use Rattle.ds_grants.specs.State.{GrantsState}
-use Rattle.ds_grants.specs.Counts.{holders_in}
+use Rattle.ds_grants.specs.Inner.Counts.{holders_in}
 use Rattle.ds_grants.specs.Represented.{IsRepresented}
 use Rattle.ds_grants.specs.contracts.grants.Grants.{the_view}
 use Rattle.ds_grants.proofs.HolderCounts.{row_counted}

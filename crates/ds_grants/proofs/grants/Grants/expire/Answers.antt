@@ -2,7 +2,7 @@ use Rattle.std.proofs.Common.{◌≤◌, ◌<◌, ◌+◌, ◌∙◌, List, leng
 use Rattle.ds_tlb.specs.declared.entry.Entry.{Entry}
 use Rattle.ds_policy.specs.Pages.{Table}
 use Rattle.ds_policy.specs.Ends.{has_expired, expired_entry}
-use Rattle.ds_grants.specs.Changes.{all_forgotten}
+use Rattle.ds_grants.specs.Inner.Changes.{all_forgotten}
 use Rattle.ds_grants.specs.State.{GrantsState, page_state}
 use Rattle.ds_grants.proofs.Living.{low_pages}
 use Rattle.ds_grants.proofs.Expired.{expired_state}

@@ -1,7 +1,7 @@
 use Rattle.std.proofs.Common.{◌≡◌, length, map}
 use Rattle.ds_policy.specs.Ends.{has_expired, expired_entry}
-use Rattle.ds_grants.specs.Changes.{all_places, all_forgotten}
-use Rattle.ds_grants.specs.Represented.{IsLow, Keeps}
+use Rattle.ds_grants.specs.Inner.Changes.{all_places, all_forgotten}
+use Rattle.ds_grants.specs.Inner.Represented.{IsLow, Keeps}
 use Rattle.ds_grants.proofs.ChildRows.{part_done, places_from}
 use Rattle.ds_grants.proofs.ChildSteps.{with_table}
 use Rattle.ds_grants.proofs.grants.Grants.expire.Given as goal

@@ -4,8 +4,8 @@ use Rattle.ds_policy.specs.declared.grant.EntryPlace.{EntryPlace}
 use Rattle.ds_policy.specs.declared.grant.Grant.{Grant}
 use Rattle.ds_policy.specs.Pages.{entries_of}
 use Rattle.ds_policy.specs.Ends.{has_expired, expired_entry}
-use Rattle.ds_grants.specs.State.{with_grant}
-use Rattle.ds_grants.specs.Changes.{places_in, all_forgotten}
+use Rattle.ds_grants.specs.Inner.State.{with_grant}
+use Rattle.ds_grants.specs.Inner.Changes.{places_in, all_forgotten}
 use Rattle.ds_grants.proofs.ChildSteps.{low_then, step_end}
 use Rattle.ds_grants.proofs.Expired.{expired_step, none_left, none_placed_there}
 use Rattle.ds_grants.proofs.grants.Grants.expire_of.Goals as goal

@@ -1,8 +1,8 @@
 use Rattle.std.proofs.Common.{◌≡◌, ◌≤◌, length, map}
 use Rattle.ds_policy.specs.Pages.{entries_of}
 use Rattle.ds_policy.specs.Ends.{has_expired, expired_entry}
-use Rattle.ds_grants.specs.Changes.{places_in, all_forgotten}
-use Rattle.ds_grants.specs.Represented.{IsLow, Keeps}
+use Rattle.ds_grants.specs.Inner.Changes.{places_in, all_forgotten}
+use Rattle.ds_grants.specs.Inner.Represented.{IsLow, Keeps}
 use Rattle.ds_grants.proofs.ChildSteps.{with_row}
 use Rattle.ds_grants.proofs.grants.Grants.expire_of.Given as goal
 

@@ -3,8 +3,8 @@ use Rattle.std.specs.List.{All}
 use Rattle.std.proofs.lemmas.List.{length-replicate}
 use Rattle.ds_policy.specs.Pages.{Table}
 use Rattle.ds_policy.proofs.Filling.{whole}
-use Rattle.ds_grants.specs.Counts.{holders_of}
-use Rattle.ds_grants.specs.Sound.{IsGoodRow}
+use Rattle.ds_grants.specs.Inner.Counts.{holders_of}
+use Rattle.ds_grants.specs.Inner.Sound.{IsGoodRow}
 use Rattle.ds_grants.proofs.FirstGrants.{first_good, none_of}
 use Rattle.ds_grants.proofs.Laying.{laid_first}
 use Rattle.ds_grants.proofs.grants.Grants.first.Goals as goal

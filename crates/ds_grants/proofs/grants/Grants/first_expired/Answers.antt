@@ -1,6 +1,6 @@
 use Rattle.std.proofs.Common.{◌∙◌, ap}
 use Rattle.ds_policy.specs.Pages.{Table, entries_of}
-use Rattle.ds_policy.specs.Ends.{first_expired}
+use Rattle.ds_policy.specs.Inner.Ends.{first_expired}
 use Rattle.ds_grants.proofs.Sizes.{good_row}
 use Rattle.ds_grants.proofs.Expired.{expired_no_page, expired_there}
 use Rattle.ds_grants.proofs.grants.Grants.first_expired.Goals as goal

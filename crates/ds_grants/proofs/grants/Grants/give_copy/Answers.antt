@@ -1,9 +1,10 @@
 use Rattle.std.proofs.Common.{◌≡◌, ◌∙◌, ◌<◌, Some, None, true, refl, sym, ap, subst, inl}
 use Rattle.ds_policy.specs.declared.grant.Right.TheVariants.{Write}
-use Rattle.ds_grants.specs.State.{GrantsState, page_state, with_grant, is_live}
+use Rattle.ds_grants.specs.State.{GrantsState, page_state, is_live}
+use Rattle.ds_grants.specs.Inner.State.{with_grant}
 use Rattle.std.specs.Prelude.{slice_index}
 use Rattle.ds_grants.specs.Represented.{IsRepresented}
-use Rattle.ds_grants.specs.Copies.{LiesOtherwise}
+use Rattle.ds_grants.specs.Inner.Copies.{LiesOtherwise}
 use Rattle.ds_grants.proofs.Living.{low_pages}
 use Rattle.ds_grants.proofs.Copies.{copied_state, none_there}
 use Rattle.ds_grants.proofs.Laying.{between, page_differs}

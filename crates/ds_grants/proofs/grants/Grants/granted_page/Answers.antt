@@ -2,7 +2,7 @@ use Rattle.std.proofs.Common.{rules, ◌≡◌, ◌≤◌, length, true, subst, 
 use Rattle.ds_policy.specs.Grants.{is_some_right}
 use Rattle.ds_policy.specs.Pages.{entry_at}
 use Rattle.ds_grants.specs.State.{GrantsState}
-use Rattle.ds_grants.specs.Free.{HasPage}
+use Rattle.ds_grants.specs.Inner.Free.{HasPage}
 use Rattle.ds_grants.specs.contracts.grants.Grants.{the_view}
 use Rattle.ds_grants.proofs.Sizes.{good_row, has_page}
 use Rattle.ds_grants.proofs.grants.Grants.granted_page.Goals as goal

@@ -1,6 +1,7 @@
 use Rattle.std.proofs.Common.{◌∙◌, sym}
 use Rattle.ds_policy.specs.Grants.{◌or_else◌, not_page, no_right}
-use Rattle.ds_grants.specs.State.{lives_in, page_state}
+use Rattle.ds_grants.specs.State.{page_state}
+use Rattle.ds_grants.specs.Inner.State.{lives_in}
 use Rattle.ds_grants.proofs.Chains.{lives_err}
 use Rattle.ds_grants.proofs.grants.Grants.granted_to.Goals as goal
 

@@ -1,6 +1,6 @@
 use Rattle.std.proofs.Common.{◌≡◌, ◌∙◌, nat_lt, subst}
 use Rattle.ds_grants.specs.State.{GrantsState, is_live}
-use Rattle.ds_grants.specs.Counts.{holders_of}
+use Rattle.ds_grants.specs.Inner.Counts.{holders_of}
 use Rattle.ds_grants.specs.contracts.grants.Grants.{the_view}
 use Rattle.ds_grants.proofs.Living.{unnamed_live}
 use Rattle.ds_grants.proofs.grants.Grants.is_live.Goals as goal

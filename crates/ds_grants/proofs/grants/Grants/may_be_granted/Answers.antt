@@ -2,10 +2,10 @@ use Rattle.std.proofs.Common.{rules, ◌≡◌, ◌≤◌, ℕ, length, true, fa
 use Rattle.ds_policy.specs.Pages.{entry_at}
 use Rattle.ds_policy.specs.Grants.{has_right}
 use Rattle.ds_grants.specs.State.{GrantsState, is_live}
-use Rattle.ds_grants.specs.Copies.{IsMarked}
+use Rattle.ds_grants.specs.Inner.Copies.{IsMarked}
 use Rattle.ds_grants.specs.contracts.grants.Grants.{the_view}
 use Rattle.ds_grants.proofs.Laying.{live_below, live_marked}
-use Rattle.ds_grants.specs.Counts.{page_of}
+use Rattle.ds_grants.specs.Inner.Counts.{page_of}
 use Rattle.ds_grants.proofs.Chains.{room_err, room_ok, at_ok}
 use Rattle.ds_grants.proofs.Sizes.{no_page}
 use Rattle.ds_grants.proofs.grants.Grants.may_be_granted.Goals as goal

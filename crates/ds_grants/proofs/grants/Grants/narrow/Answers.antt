@@ -1,7 +1,7 @@
 use Rattle.std.proofs.Common.{rules, ◌∙◌, ◌<◌, Ok, ℕ, Option, IfSome, is_some, sym, ap, subst}
 use Rattle.ds_policy.specs.Grants.{PageState}
 use Rattle.ds_grants.specs.State.{GrantsState, page_state}
-use Rattle.ds_grants.specs.Copies.{IsMarked}
+use Rattle.ds_grants.specs.Inner.Copies.{IsMarked}
 use Rattle.ds_grants.proofs.Chains.{refused_by, narrowed_as}
 use Rattle.ds_grants.proofs.Living.{low_pages, narrowed_state}
 use Rattle.ds_grants.proofs.grants.Grants.narrow.Goals as goal

@@ -4,7 +4,7 @@ use Rattle.ds_pagemap.specs.First.{source_bytes}
 use Rattle.ds_mem.specs.Memory.{frame_of}
 use Rattle.ds_asid.proofs.Apart.{start_apart}
 use Rattle.ds_grants.proofs.Fills.{empty_buffer}
-use Rattle.ds_grants.specs.First.{AreInOrder}
+use Rattle.ds_grants.specs.Inner.First.{AreInOrder}
 use Rattle.ds_grants.proofs.FirstGrants.{first_order}
 use Rattle.ds_grants.proofs.FirstPages.{first_pages_hold}
 use Rattle.ds_grants.proofs.grants.Grants.new.Goals as goal

@@ -1,7 +1,7 @@
 use Rattle.std.proofs.Common.{◌+◌, ◌<◌, ◌∙◌, ℕ, length, refl, sym, ap, subst, arith}
 use Rattle.std.specs.Prelude.{slice_index}
 use Rattle.ds_grants.specs.State.{GrantsState}
-use Rattle.ds_grants.specs.Frames.{AreLying}
+use Rattle.ds_grants.specs.Inner.Frames.{AreLying}
 use Rattle.ds_grants.specs.contracts.grants.Grants.{the_view}
 use Rattle.ds_grants.proofs.OwnFrames.{none_counted, one_counted_as, none_more, is_counted}
 use Rattle.ds_grants.proofs.grants.Grants.pages_by_frame.Goals as goal

@@ -1,8 +1,8 @@
 use Rattle.std.proofs.Common.{◌∙◌, ◌<◌, ℕ, Option, IfSome, is_some, sym, ap, subst}
 use Rattle.ds_policy.specs.Pages.{entry_at}
 use Rattle.ds_grants.specs.State.{GrantsState, page_state}
-use Rattle.ds_grants.specs.Copies.{IsMarked}
-use Rattle.ds_grants.specs.Counts.{page_of}
+use Rattle.ds_grants.specs.Inner.Copies.{IsMarked}
+use Rattle.ds_grants.specs.Inner.Counts.{page_of}
 use Rattle.ds_grants.proofs.Copies.{none_there}
 use Rattle.ds_grants.proofs.Living.{low_pages, shared_state, one_lives}
 use Rattle.ds_grants.proofs.grants.Grants.share.Goals as goal

@@ -2,8 +2,9 @@ use Rattle.std.proofs.Common.{◌≡◌, ◌∙◌, ℕ, ◌-◌, ◌<◌, List,
 use Rattle.ds_policy.specs.declared.grant.Grant.{Grant}
 use Rattle.ds_policy.specs.Pages.{Table, names, entry_at, entries_of}
 use Rattle.ds_grants.specs.State.{GrantsState}
-use Rattle.ds_grants.specs.Counts.{one_if_named, page_of}
-use Rattle.ds_grants.specs.Sound.{AreCounted, NamesPages}
+use Rattle.ds_grants.specs.Inner.Counts.{one_if_named, page_of}
+use Rattle.ds_grants.specs.Sound.{NamesPages}
+use Rattle.ds_grants.specs.Inner.Sound.{AreCounted}
 use Rattle.ds_grants.proofs.HolderCounts.{itself, found_holds, row_holders, counted_within}
 use Rattle.ds_grants.proofs.Living.{one_named}
 use Rattle.ds_grants.proofs.grants.Grants.table.Goals as goal

@@ -2,7 +2,7 @@ use Rattle.std.proofs.Common.{◌∙◌, get_or, sym, subst, refl}
 use Rattle.std.specs.Int.RustNames.{bit_or}
 use Rattle.std.proofs.lemmas.List.Quantifiers.{position-Some}
 use Rattle.ds_grants.specs.declared.origins.Origin.{Origin}
-use Rattle.ds_grants.specs.Origins.{OriginsState, Has, receivers_of}
+use Rattle.ds_grants.specs.Inner.Origins.{OriginsState, Has, receivers_of}
 use Rattle.ds_policy.proofs.Entries.{refill_set}
 use Rattle.ds_grants.proofs.Known.{is_at, in_either, in_other, set_at, kept_set}
 use Rattle.ds_grants.proofs.Seen.{seen_set, apart_set}

@@ -1,5 +1,5 @@
 use Rattle.std.proofs.Common.{arith, ◌≡◌, true, None, position, sym, subst}
-use Rattle.ds_grants.specs.Origins.{OriginsState, Has, receivers_of}
+use Rattle.ds_grants.specs.Inner.Origins.{OriginsState, Has, receivers_of}
 use Rattle.ds_grants.proofs.Known.{is_at, in_everyone, unknown_at, appended_at, kept_appended, kept_overflowed}
 use Rattle.ds_grants.proofs.Seen.{seen_more, apart_more}
 use Rattle.ds_grants.proofs.origins.Origins.append.Goals as goal

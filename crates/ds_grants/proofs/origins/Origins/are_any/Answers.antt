@@ -1,5 +1,5 @@
 use Rattle.std.proofs.Common.{◌≡◌, subst}
-use Rattle.ds_grants.specs.Origins.{OriginsState, receivers_of}
+use Rattle.ds_grants.specs.Inner.Origins.{OriginsState, receivers_of}
 use Rattle.ds_grants.proofs.Known.{nothing_known}
 use Rattle.ds_grants.proofs.origins.Origins.are_any.Goals as goal
 

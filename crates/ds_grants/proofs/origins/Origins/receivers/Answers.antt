@@ -1,6 +1,6 @@
 use Rattle.std.proofs.Common.{◌∙◌, sym, ap}
 use Rattle.std.proofs.lemmas.List.Quantifiers.{position-Some}
-use Rattle.ds_grants.specs.Origins.{OriginsState, receivers_of}
+use Rattle.ds_grants.specs.Inner.Origins.{OriginsState, receivers_of}
 use Rattle.ds_grants.proofs.Known.{is_at, known_at, unknown_at}
 use Rattle.ds_grants.proofs.origins.Origins.receivers.Goals as goal
 

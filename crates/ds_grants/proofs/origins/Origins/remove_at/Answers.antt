@@ -1,7 +1,7 @@
 use Rattle.std.proofs.Common.{◌≡◌, ◌∙◌, ℕ, get_or, position, Some, sym, ap, subst, arith}
 use Rattle.std.proofs.lemmas.List.Quantifiers.{position-Some}
 use Rattle.ds_grants.specs.declared.origins.Origin.{Origin}
-use Rattle.ds_grants.specs.Origins.{OriginsState, Has, receivers_of}
+use Rattle.ds_grants.specs.Inner.Origins.{OriginsState, Has, receivers_of}
 use Rattle.ds_grants.proofs.FifthRegion.{same_number}
 use Rattle.ds_grants.proofs.Known.{is_at, known_at}
 use Rattle.ds_grants.proofs.Seen.{seen_moved}

@@ -1,5 +1,5 @@
 use Rattle.std.proofs.Common.{◌≡◌, ◌∙◌, position, Some, sym, ap, subst}
-use Rattle.ds_grants.specs.Origins.{OriginsState, receivers_of}
+use Rattle.ds_grants.specs.Inner.Origins.{OriginsState, receivers_of}
 use Rattle.ds_grants.proofs.Known.{is_at, unknown_at}
 use Rattle.ds_grants.proofs.origins.Origins.take.Goals as goal
 

@@ -1,5 +1,5 @@
 use Rattle.std.proofs.Common.{rules, ◌≤◌, List, length, subst}
-use Rattle.ds_grants.specs.Origins.{OriginsState, Has, receivers_at}
+use Rattle.ds_grants.specs.Inner.Origins.{OriginsState, Has, receivers_at}
 use Rattle.ds_grants.proofs.Receivers.{outside}
 use Rattle.ds_grants.proofs.sharing.Sharing.add_at.Goals as goal
 

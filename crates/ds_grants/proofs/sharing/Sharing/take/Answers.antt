@@ -1,7 +1,7 @@
 use Rattle.std.proofs.Common.{rules, ◌≡◌, ◌<◌, ◌∙◌, List, length, get_or, sym, ap, subst}
 use Rattle.std.specs.Prelude.{slice_set}
 use Rattle.ds_policy.proofs.Rows.{other_default}
-use Rattle.ds_grants.specs.Origins.{OriginsState, Has, receivers_of, receivers_at, unknown, KeepsOthers}
+use Rattle.ds_grants.specs.Inner.Origins.{OriginsState, Has, receivers_of, receivers_at, unknown, KeepsOthers}
 use Rattle.ds_grants.proofs.Receivers.{set_keeps_others}
 use Rattle.ds_grants.proofs.sharing.Sharing.take.Goals as goal
 

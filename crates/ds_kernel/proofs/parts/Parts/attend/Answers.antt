@@ -1,10 +1,10 @@
 use Rattle.std.proofs.Common.{◌≡◌, ◌+◌, ◌^◌, ◌<◌, ◌≤◌, [], length, ap, sym, subst, ◌∙◌, arith}
 use Rattle.ds_pagemap_laws.specs.Lawful.{IsLawful}
-use Rattle.ds_refinement.specs.Held.{whole}
+use Rattle.ds_refinement.specs.Inner.Held.{whole}
 use Rattle.ds_refinement.proofs.Boundaries.{some_turn}
 use Rattle.ds_monitor.specs.declared.monitor.Monitor.{Monitor}
-use Rattle.ds_monitor.specs.Kept.{kept_of}
-use Rattle.ds_monitor.specs.Room.{HasBoundaryRoom}
+use Rattle.ds_monitor.specs.Inner.Kept.{kept_of}
+use Rattle.ds_monitor.specs.Inner.Room.{HasBoundaryRoom}
 use Rattle.ds_kernel.specs.declared.parts.Parts.{Parts}
 use Rattle.ds_kernel.proofs.Attending.{is_scanned, is_empty, tells}
 use Rattle.ds_kernel.proofs.Hearing.{arrived_tells}
@@ -61,5 +61,5 @@ returns g c =
     let old = c.args.self.now in
     let turn = some_turn old.monitor.owed c.requires.owed in
     has_attended old c.arrive.new.self c.serve_turn.new.self c.end_unit.new.self c.look_ahead.new.self turn.0 c.requires.good.sound turn.1 c.requires.good.orderly.ticked
-    c.requires.high c.requires.low c.look_at_order.ensures.lines c.arrive.ensures.state c.serve_turn.ensures.serves c.serve_turn.ensures.orderly c.serve_turn.ensures.count c.serve_turn.ensures.bus c.serve_turn.ensures.low c.serve_turn.ensures.keeps c.serve_turn.ensures.pairs c.serve_turn.ensures.random c.serve_turn.ensures.rest
+    c.requires.high c.requires.low c.show_events_in_order.ensures.lines c.arrive.ensures.state c.serve_turn.ensures.serves c.serve_turn.ensures.orderly c.serve_turn.ensures.count c.serve_turn.ensures.bus c.serve_turn.ensures.low c.serve_turn.ensures.keeps c.serve_turn.ensures.pairs c.serve_turn.ensures.random c.serve_turn.ensures.rest
     c.look_ahead.ensures c.end_unit.ensures.enters c.end_unit.ensures.represented c.end_unit.ensures.pairs c.end_unit.ensures.context c.end_unit.ensures.pages c.end_unit.ensures.random c.end_unit.ensures.own c.end_unit.ensures.whole c.end_unit.ensures.rest

@@ -1,4 +1,4 @@
-use Rattle.ds_kernel.specs.Parts.{held}
+use Rattle.ds_kernel.specs.Inner.Parts.{held}
 use Rattle.ds_kernel.proofs.Running.{ready_not_over}
 use Rattle.ds_kernel.proofs.parts.Parts.begin.Goals as goal
 

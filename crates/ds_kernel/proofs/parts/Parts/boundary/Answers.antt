@@ -1,4 +1,4 @@
-use Rattle.ds_kernel.specs.Parts.{held}
+use Rattle.ds_kernel.specs.Inner.Parts.{held}
 use Rattle.ds_kernel.proofs.Bounding.{bounded_does}
 use Rattle.ds_kernel.proofs.parts.Parts.boundary.Goals as goal
 

@@ -3,8 +3,8 @@ use Rattle.ds_pagemap.specs.Unit.{fault}
 use Rattle.ds_refinement.specs.declared.step.Step.{Step}
 use Rattle.ds_refinement.specs.Units.{ends_in_stop}
 use Rattle.ds_refinement.specs.Told.{own_in}
-use Rattle.ds_kernel.specs.Parts.{held}
-use Rattle.ds_kernel.specs.Ended.{HasEnded, Does}
+use Rattle.ds_kernel.specs.Inner.Parts.{held}
+use Rattle.ds_kernel.specs.Inner.Ended.{HasEnded, DoesStep}
 use Rattle.ds_kernel.proofs.Doing.{kernel_of, slot_step, ended_good}
 use Rattle.ds_kernel.proofs.parts.Parts.call_in_slot.Goals as goal
 
@@ -15,7 +15,7 @@ pub returns-clause-does : goal.returns-clause-does
 returns-clause-does g c =
     let old = c.args.self.now in
     let new = c.stop.new.self in
-    subst (λ (s : Step). Does s (held old) (held new)) (sym c.stop.ensures.step)
+    subst (λ (s : Step). DoesStep s (held old) (held new)) (sym c.stop.ensures.step)
     (slot_step c.args.process old new c.requires.busy c.requires.served c.requires.left c.requires.told c.requires.slot
     (subst (λ (n : ℕ). HasEnded (ends_in_stop c.args.process old.core.system.epc (own_in old.core.system) (fault n 8)) old new) c.own_address-own.ensures c.stop.ensures.ends))
 
@@ -24,4 +24,4 @@ returns-clause-good g c =
     let old = c.args.self.now in
     let new = c.stop.new.self in
     ended_good _ c.args.process old new c.requires.busy c.stop.ensures.ends
-    (subst (λ (s : Step). Does s (held old) (held new)) c.stop.ensures.step (returns-clause-does g c))
+    (subst (λ (s : Step). DoesStep s (held old) (held new)) c.stop.ensures.step (returns-clause-does g c))

@@ -1,7 +1,7 @@
 use Rattle.std.proofs.Common.{sym, subst}
 use Rattle.ds_refinement.specs.declared.step.Step.{Step}
-use Rattle.ds_kernel.specs.Parts.{held}
-use Rattle.ds_kernel.specs.Ended.{Does}
+use Rattle.ds_kernel.specs.Inner.Parts.{held}
+use Rattle.ds_kernel.specs.Inner.Ended.{DoesStep}
 use Rattle.ds_kernel.proofs.Doing.{kernel_of, call_step, ended_good}
 use Rattle.ds_kernel.proofs.parts.Parts.call_outside_slot.Goals as goal
 
@@ -12,7 +12,7 @@ pub returns-clause-does : goal.returns-clause-does
 returns-clause-does g c =
     let old = c.args.self.now in
     let new = c.call.new.self in
-    subst (λ (s : Step). Does s (held old) (held new)) (sym c.call.ensures.step)
+    subst (λ (s : Step). DoesStep s (held old) (held new)) (sym c.call.ensures.step)
     (call_step c.args.process old new c.requires.busy c.requires.served c.requires.left c.requires.told c.requires.slot c.call.ensures.ends)
 
 pub returns-clause-good : goal.returns-clause-good
@@ -20,4 +20,4 @@ returns-clause-good g c =
     let old = c.args.self.now in
     let new = c.call.new.self in
     ended_good _ c.args.process old new c.requires.busy c.call.ensures.ends
-    (subst (λ (s : Step). Does s (held old) (held new)) c.call.ensures.step (returns-clause-does g c))
+    (subst (λ (s : Step). DoesStep s (held old) (held new)) c.call.ensures.step (returns-clause-does g c))

@@ -2,7 +2,8 @@ use Rattle.std.proofs.Common.{◌≡◌, ℕ, ◌≤◌, List, length, sym, subs
 use Rattle.std.specs.Prelude.{nat_lt, if◌then◌else◌}
 use Rattle.ds_tlb.specs.declared.entry.Entry.{Entry}
 use Rattle.ds_tlb.specs.Entries.{empty_entries}
-use Rattle.ds_asid.specs.Spaces.{Spaces, after_take}
+use Rattle.ds_asid.specs.Spaces.{Spaces}
+use Rattle.ds_asid.specs.Inner.Spaces.{after_take}
 use Rattle.ds_tables.specs.Places.{Places}
 use Rattle.ds_grants.specs.State.{GrantsState}
 use Rattle.ds_grants.specs.Represented.{IsRepresented}

@@ -17,12 +17,12 @@ attend-requires g c =
 pub returns-then-self-clause-bounded : goal.returns-then-self-clause-bounded
 returns-then-self-clause-bounded g c =
     let m = c.args.self.now.monitor in
-    inl (nothing_due m m.time m.owed c.look_at_order.ensures.commands c.look_at_order.ensures.order c.requires.good.next c.if-self.true c.requires.good.orderly.kept, refl)
+    inl (nothing_due m m.time m.owed c.show_events_in_order.ensures.commands c.show_events_in_order.ensures.order c.requires.good.next c.if-self.true c.requires.good.orderly.kept, refl)
 
 pub returns-then-self-clause-good : goal.returns-then-self-clause-good
 returns-then-self-clause-good g c =
     let m = c.args.self.now.monitor in
-    quiet_good c.args.self.now c.requires.good c.requires.owed (nothing_due m m.time m.owed c.look_at_order.ensures.commands c.look_at_order.ensures.order c.requires.good.next c.if-self.true c.requires.good.orderly.kept)
+    quiet_good c.args.self.now c.requires.good c.requires.owed (nothing_due m m.time m.owed c.show_events_in_order.ensures.commands c.show_events_in_order.ensures.order c.requires.good.next c.if-self.true c.requires.good.orderly.kept)
 
 pub returns-else-self-clause-good : goal.returns-else-self-clause-good
 returns-else-self-clause-good g c = attended_good c.args.self.now c.requires.good c.requires.owed c.attend.new.self c.attend.ensures

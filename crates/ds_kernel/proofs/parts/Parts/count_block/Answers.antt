@@ -1,8 +1,8 @@
 use Rattle.std.proofs.Common.{◌≡◌, ◌+◌, ◌-◌, ◌≤◌, ◌∙◌, ℕ, ap, sym, arith}
-use Rattle.ds_ahead.specs.Ahead.{owed_tick}
+use Rattle.ds_ahead.specs.Inner.Ahead.{owed_tick}
 use Rattle.ds_refinement.specs.Held.{Own}
 use Rattle.ds_kernel.specs.declared.parts.Parts.{Parts}
-use Rattle.ds_kernel.specs.Parts.{own_of}
+use Rattle.ds_kernel.specs.Inner.Parts.{own_of}
 use Rattle.ds_kernel.proofs.Blocking.{whole_counts}
 use Rattle.ds_kernel.proofs.parts.Parts.count_block.Goals as goal
 

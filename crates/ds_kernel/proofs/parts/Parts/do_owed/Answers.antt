@@ -1,5 +1,5 @@
 use Rattle.std.proofs.Common.{sym, ◌∙◌}
-use Rattle.ds_kernel.specs.Parts.{held}
+use Rattle.ds_kernel.specs.Inner.Parts.{held}
 use Rattle.ds_kernel.proofs.Running.{step_goes, goes_join, owed_goes_on}
 use Rattle.ds_kernel.proofs.parts.Parts.do_owed.Goals as goal
 

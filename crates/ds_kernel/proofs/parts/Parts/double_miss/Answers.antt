@@ -2,7 +2,7 @@ use Rattle.std.proofs.Common.{rules, ap}
 use Rattle.ds_cp0.specs.System.{is_user}
 use Rattle.ds_refinement.specs.Held.{Held}
 use Rattle.ds_refinement.proofs.Tallied.{few_of}
-use Rattle.ds_kernel.specs.Parts.{held}
+use Rattle.ds_kernel.specs.Inner.Parts.{held}
 use Rattle.ds_kernel.specs.declared.parts.Parts.{Parts}
 use Rattle.ds_kernel.proofs.Doing.{table_page_above, double_step, back_good}
 use Rattle.ds_kernel.proofs.parts.Parts.double_miss.Goals as goal

@@ -4,7 +4,7 @@ use Rattle.ds_dev.specs.Serial.{SerialState, read_silo}
 use Rattle.ds_dev.specs.Bus.{BusState}
 use Rattle.ds_pagemap.specs.Boundary.{queued, all_queued}
 use Rattle.ds_refinement.specs.Held.{Kept}
-use Rattle.ds_kernel.specs.Devices.{IsOfLine, oldest, typed, emptied}
+use Rattle.ds_kernel.specs.Inner.Devices.{IsOfLine, oldest, typed, emptied}
 use Rattle.ds_kernel.proofs.Arriving.{queued_next, emptied_next, lines_next, queued_long, read_rest}
 use Rattle.ds_kernel.proofs.parts.Parts.drain.Goals as goal
 

@@ -1,7 +1,7 @@
 use Rattle.std.proofs.Common.{◌≡◌, length, map, All}
 use Rattle.ds_dev.specs.Bus.{with_serial}
 use Rattle.ds_pagemap.specs.Boundary.{all_queued}
-use Rattle.ds_kernel.specs.Devices.{IsOfLine, typed, emptied}
+use Rattle.ds_kernel.specs.Inner.Devices.{IsOfLine, typed, emptied}
 use Rattle.ds_kernel.proofs.parts.Parts.drain.Given as goal
 
 abbrev pub invariant-loop-character : goal.invariant-loop-character

@@ -1,9 +1,9 @@
 use Rattle.std.proofs.Common.{ℕ, ◌≡◌, sym, ap, subst, ◌<◌, ◌≤◌, ◌∙◌, length}
-use Rattle.ds_asid.specs.Spaces.{Spaces, number_of}
+use Rattle.ds_asid.specs.Spaces.{Spaces, space_number}
 use Rattle.ds_pagemap.specs.Machine.{process_of, first}
 use Rattle.ds_pagemap_laws.specs.Lawful.{IsReady}
-use Rattle.ds_kernel.specs.Seats.{in_space, on_processor}
-use Rattle.ds_monitor.specs.Kept.{kept_of}
+use Rattle.ds_kernel.specs.Inner.Seats.{in_space, on_processor}
+use Rattle.ds_monitor.specs.Inner.Kept.{kept_of}
 use Rattle.ds_monitor.specs.declared.monitor.Monitor.{Monitor}
 use Rattle.ds_kernel.specs.declared.parts.Parts.{Parts}
 use Rattle.ds_kernel.proofs.Keeping.{ready_first}
@@ -29,12 +29,12 @@ returns-in-Some-clause-enters g c =
     let between = c.claim_space-number.new.self in
     let monitor = ap (λ (x : Parts g.row.L.Denot). x.monitor) c.put_on.ensures ∙ ap (λ (x : Parts g.row.L.Denot). x.monitor) c.claim_space-number.ensures.rest in
     let spaces = ap (λ (x : Parts g.row.L.Denot). x.monitor.spaces) c.put_on.ensures in
-    let same : c.claim_space-number.result ≡ number_of c.put_on.new.self.monitor.spaces p = c.claim_space-number.ensures.number ∙ ap (λ (s : Spaces). number_of s p) (sym spaces) in
+    let same : c.claim_space-number.result ≡ space_number c.put_on.new.self.monitor.spaces p = c.claim_space-number.ensures.number ∙ ap (λ (s : Spaces). space_number s p) (sym spaces) in
     entering c.put_on.new.self.monitor.ready p (in_space between.core c.claim_space-number.result) c.put_on.new.self.core (kept_of c.put_on.new.self.monitor)
     (ap (λ (m : Monitor). first m.ready) monitor ∙ (ap (λ (x : Parts g.row.L.Denot). first x.monitor.ready) (sym c.self.view_is) ∙ (sym c.first_ready.ensures ∙ c.in-Some.is)))
     (subst (λ (m : Monitor). IsReady (kept_of m).state p) (sym monitor) (ready_first (kept_of old).state p old.ready (ap (λ (x : Parts g.row.L.Denot). first x.monitor.ready) (sym c.self.view_is) ∙ (sym c.first_ready.ensures ∙ c.in-Some.is)) c.requires.ready))
     (subst (λ (n : ℕ). 0 < n) same c.claim_space-number.ensures.range.0)
-    (set_in between.core c.claim_space-number.result (number_of c.put_on.new.self.monitor.spaces p) same (subst (λ (n : ℕ). n < 64) same c.claim_space-number.ensures.range.1))
+    (set_in between.core c.claim_space-number.result (space_number c.put_on.new.self.monitor.spaces p) same (subst (λ (n : ℕ). n < 64) same c.claim_space-number.ensures.range.1))
     (ap (λ (x : Parts g.row.L.Denot). x.core) c.put_on.ensures
     ∙ ap (λ (m : Monitor). on_processor (in_space between.core c.claim_space-number.result) (process_of (kept_of m).state p)) (sym (ap (λ (x : Parts g.row.L.Denot). x.monitor) c.put_on.ensures)))
 

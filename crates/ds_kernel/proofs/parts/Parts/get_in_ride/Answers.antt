@@ -1,21 +1,21 @@
 use Rattle.std.proofs.Common.{◌≡◌, ◌+◌, ◌-◌, ℕ, ◌∙◌, ap, sym, subst, arith}
 use Rattle.ds_dev.specs.Bus.{BusState}
-use Rattle.ds_ahead.specs.Ride.{ridden, behind_answer}
+use Rattle.ds_ahead.specs.Inner.Ride.{ridden, after_answer}
 use Rattle.ds_procs.specs.declared.call.Call.TheVariants.{Get}
 use Rattle.ds_pagemap.specs.Machine.{process_of}
 use Rattle.ds_pagemap.specs.Calls.{queue_of}
 use Rattle.ds_refinement.specs.Held.{Kept}
 use Rattle.ds_monitor.specs.declared.monitor.Monitor.{Monitor}
-use Rattle.ds_monitor.specs.Taking.{got, with_taken}
-use Rattle.ds_monitor.specs.Kept.{kept_of}
-use Rattle.ds_monitor.specs.Room.{HasLogRoom}
+use Rattle.ds_monitor.specs.Inner.Taking.{got, with_taken}
+use Rattle.ds_monitor.specs.Inner.Kept.{kept_of}
+use Rattle.ds_monitor.specs.Inner.Room.{HasLogRoom}
 use Rattle.ds_kernel.specs.declared.parts.Parts.{Parts}
-use Rattle.ds_refinement.specs.Services.{with_none_spent}
-use Rattle.ds_kernel.specs.Parts.{own_of}
-use Rattle.ds_kernel.specs.InBlock.{riding, at_call}
+use Rattle.ds_refinement.specs.Inner.Services.{with_none_spent}
+use Rattle.ds_kernel.specs.Inner.Parts.{own_of}
+use Rattle.ds_kernel.specs.Inner.InBlock.{riding, at_call}
 use Rattle.ds_kernel.proofs.AtOnce.{Answers, is_answered, get_answers, asks_get}
 use Rattle.ds_kernel.proofs.Keeping.{first_ready}
-use Rattle.ds_kernel.proofs.OnRides.{behind_is, none_counted}
+use Rattle.ds_kernel.proofs.OnRides.{after_is, none_counted}
 use Rattle.ds_kernel.proofs.parts.Parts.get_in_ride.Goals as goal
 
 pub take_character-answer-requires-clause-within : goal.take_character-answer-requires-clause-within
@@ -46,9 +46,9 @@ returns-clause-answered g c =
     (subst (λ (b : BusState). Answers k.state p old.core.system.epc Get (got (queue_of k.state p)) (with_taken p k.state).queues k.state.consoles old.bus b) (sym bus)
     (get_answers k.state p old.core.system.epc old.bus
     ((first_ready (kept_of here.monitor) p c.requires.first c.requires.lawful).0, (first_ready (kept_of here.monitor) p c.requires.first c.requires.lawful).1))))
-    c.look_at_order.ensures.commands
-    c.look_at_order.ensures.order
-    (went.ensures.core ∙ (ap (λ (x : Parts g.row.L.Denot). behind_answer (ridden c.args.ride.now x.core) answer) c.take_character-answer.ensures.rest ∙ behind_is core here.bus answer q c.requires.may.outside c.requires.mode))
+    c.show_events_in_order.ensures.commands
+    c.show_events_in_order.ensures.order
+    (went.ensures.core ∙ (ap (λ (x : Parts g.row.L.Denot). after_answer (ridden c.args.ride.now x.core) answer) c.take_character-answer.ensures.rest ∙ after_is core here.bus answer q c.requires.may.outside c.requires.mode))
     (ap (λ (x : Parts g.row.L.Denot). kept_of x.monitor) went.ensures.rest
     ∙ (ap (λ (z : Kept). record z { state = record z.state { time = z.state.time + less } }) c.take_character-answer.ensures.kept
     ∙ ap (λ (t : ℕ). record k { state = record k.state { queues = (with_taken p k.state).queues; time = t } }) later))

@@ -1,4 +1,4 @@
-use Rattle.ds_kernel.specs.Parts.{held}
+use Rattle.ds_kernel.specs.Inner.Parts.{held}
 use Rattle.ds_kernel.proofs.Refilling.{missed_kernel}
 use Rattle.ds_kernel.proofs.Running.{early}
 use Rattle.ds_kernel.proofs.parts.Parts.go_at_once.Goals as goal

@@ -1,7 +1,7 @@
 use Rattle.std.proofs.Common.{[], map, sym, ◌∙◌}
-use Rattle.ds_refinement.specs.Held.{whole}
-use Rattle.ds_monitor.specs.Kept.{kept_of}
-use Rattle.ds_kernel.specs.Devices.{typed}
+use Rattle.ds_refinement.specs.Inner.Held.{whole}
+use Rattle.ds_monitor.specs.Inner.Kept.{kept_of}
+use Rattle.ds_kernel.specs.Inner.Devices.{typed}
 use Rattle.ds_kernel.proofs.Hearing.{none_heard, quiet_kept, quiet_bus}
 use Rattle.ds_kernel.proofs.Sharing.{drained_formed, woken_orderly, lines_low}
 use Rattle.ds_kernel.proofs.parts.Parts.hear.Goals as goal

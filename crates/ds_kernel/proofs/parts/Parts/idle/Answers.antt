@@ -1,7 +1,7 @@
 use Rattle.std.proofs.Common.{ap}
 use Rattle.ds_refinement.specs.Held.{Kept}
 use Rattle.ds_monitor.specs.declared.monitor.Monitor.{Monitor}
-use Rattle.ds_kernel.specs.Parts.{held}
+use Rattle.ds_kernel.specs.Inner.Parts.{held}
 use Rattle.ds_kernel.proofs.Bounding.{idle_bounded, waiting_good}
 use Rattle.ds_kernel.proofs.parts.Parts.idle.Goals as goal
 

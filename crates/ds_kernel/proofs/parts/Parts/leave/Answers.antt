@@ -1,7 +1,7 @@
 use Rattle.std.proofs.Common.{None, sym, subst}
 use Rattle.ds_pagemap.specs.Machine.{State, process_of, with_process}
-use Rattle.ds_monitor.specs.Kept.{kept_of, kept_after}
-use Rattle.ds_monitor.specs.Orderly.{IsOrderly}
+use Rattle.ds_monitor.specs.Inner.Kept.{kept_of, kept_after}
+use Rattle.ds_monitor.specs.Inner.Orderly.{IsOrderly}
 use Rattle.ds_monitor.proofs.Lawful.{seat_orderly}
 use Rattle.ds_kernel.specs.declared.parts.Parts.{Parts}
 use Rattle.ds_kernel.proofs.parts.Parts.leave.Goals as goal
@@ -18,4 +18,4 @@ returns-clause-orderly g c = λ it.
     })) (kept_of old.monitor))) (sym c.self.view_is)
     (seat_orderly (kept_of c.args.self.now.monitor) p pc
     (record { general = core.registers.general; hi = core.registers.hi; lo = core.registers.lo; late = None })
-    (record { size = c.look_at_registers.ensures.size; nought = c.look_at_registers.ensures.nought; late = tt }) it))
+    (record { size = c.show_register_zero.ensures.size; nought = c.show_register_zero.ensures.nought; late = tt }) it))

@@ -1,5 +1,5 @@
 use Rattle.std.proofs.Common.{◌≡◌, ◌+◌, ◌-◌, ◌<◌, ◌≤◌, ap, arith}
-use Rattle.ds_ahead.specs.Ahead.{owed_tick}
+use Rattle.ds_ahead.specs.Inner.Ahead.{owed_tick}
 use Rattle.ds_kernel.proofs.Ahead.{may_run_ahead}
 use Rattle.ds_kernel.proofs.parts.Parts.may_go_on.Goals as goal
 
@@ -11,6 +11,6 @@ returns-then-self-end g c = λ room.
     let none : owed_tick p.core.slot ≡ 0 = ap owed_tick c.requires.outside in record {
       early = early;
       outside = c.requires.outside;
-      ahead = may_run_ahead p (c.args.end - p.monitor.time - 1) c.requires.good c.look_at_order.ensures.commands c.look_at_order.ensures.order c.requires.unowed c.requires.ready c.requires.user (omega (arith, early, quiet, none));
+      ahead = may_run_ahead p (c.args.end - p.monitor.time - 1) c.requires.good c.show_events_in_order.ensures.commands c.show_events_in_order.ensures.order c.requires.unowed c.requires.ready c.requires.user (omega (arith, early, quiet, none));
       room = record { consoles = c.have_room.ensures room; log = c.requires.log };
     }

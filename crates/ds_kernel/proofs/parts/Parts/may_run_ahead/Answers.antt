@@ -19,7 +19,7 @@ pub returns-then-is_some-2-clause-ahead : goal.returns-then-is_some-2-clause-ahe
 returns-then-is_some-2-clause-ahead g c =
     let m = c.args.self.now.monitor in
     let later = c.if-end-self.false in
-    may_run_ahead c.args.self.now (c.min-end.result - m.time - 1) c.requires.good c.look_at_order.ensures.commands c.look_at_order.ensures.order
+    may_run_ahead c.args.self.now (c.min-end.result - m.time - 1) c.requires.good c.show_events_in_order.ensures.commands c.show_events_in_order.ensures.order
     (none_owed m.owed (sym c.is_some.ensures ∙ c.if-is_some.false))
     (some_ready m.ready (sym (c.is_some-2.ensures ∙ ap (λ (o : Option ℕ). is_some o) c.first_ready.ensures) ∙ c.if-is_some-2.true))
     (sym c.is_user.ensures ∙ c.if-not-is_user.false)

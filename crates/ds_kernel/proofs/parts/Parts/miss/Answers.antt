@@ -3,8 +3,8 @@ use Rattle.ds_policy.specs.declared.access.Verdict.TheVariants.{Allowed, Denied}
 use Rattle.ds_policy.specs.Pages.{decide}
 use Rattle.ds_pagemap.specs.Unit.{denied_as}
 use Rattle.ds_refinement.specs.declared.step.Step.{Step}
-use Rattle.ds_kernel.specs.Parts.{held}
-use Rattle.ds_kernel.specs.Ended.{Does}
+use Rattle.ds_kernel.specs.Inner.Parts.{held}
+use Rattle.ds_kernel.specs.Inner.Ended.{DoesStep}
 use Rattle.ds_kernel.proofs.Doing.{kernel_of, verdict_is, denied_small, stopped_as, denied_step, awaits, ended_good}
 use Rattle.ds_kernel.proofs.parts.Parts.miss.Goals as goal
 
@@ -31,7 +31,7 @@ returns-in-Denied-clause-does g c =
     let new = c.stop.new.self in
     let denied : decide old.monitor.grants.table c.args.process c.args.access.kind c.args.access.size old.core.system.bad_vaddr ≡ Denied c.in-Denied.rule c.in-Denied.code =
     verdict_is _ old.monitor.grants.table c.args.process c.args.access _ old.core.system.bad_vaddr _ (Denied c.in-Denied.rule c.in-Denied.code) c.decide.ensures.exact c.table.ensures.value c.bad_address-address.ensures c.in-Denied.is in
-    subst (λ (s : Step). Does s (held old) (held new)) (sym c.stop.ensures.step)
+    subst (λ (s : Step). DoesStep s (held old) (held new)) (sym c.stop.ensures.step)
     (denied_step c.args.process old new c.requires.busy c.requires.served c.requires.left c.args.access c.in-Denied.rule c.in-Denied.code c.requires.told denied
     (stopped_as c.args.process old new c.denied_as.result (denied_as c.args.access.kind) c.bad_address-address.result old.core.system.bad_vaddr c.in-Denied.rule c.in-Denied.code c.denied_as.ensures c.bad_address-address.ensures c.stop.ensures.ends))
 
@@ -40,4 +40,4 @@ returns-in-Denied-clause-good g c =
     let old = c.args.self.now in
     let new = c.stop.new.self in
     ended_good _ c.args.process old new c.requires.busy c.stop.ensures.ends
-    (subst (λ (s : Step). Does s (held old) (held new)) c.stop.ensures.step (returns-in-Denied-clause-does g c))
+    (subst (λ (s : Step). DoesStep s (held old) (held new)) c.stop.ensures.step (returns-in-Denied-clause-does g c))

@@ -9,7 +9,7 @@ use Rattle.ds_mem.proofs.Zeros.{frame_of-zeros}
 use Rattle.ds_refill.specs.Handler as handler
 use Rattle.ds_tables.specs.Tables.{HasEmptyTable}
 use Rattle.ds_grants.specs.State.{GrantsState, page_state}
-use Rattle.ds_grants.specs.Represented.{HasWords}
+use Rattle.ds_grants.specs.Represented.{TablesHaveWords}
 use Rattle.ds_grants.specs.First.{first_grants}
 use Rattle.ds_grants.specs.Sound.{NamesPages}
 use Rattle.ds_pagemap.specs.Machine.{no_process}
@@ -48,8 +48,8 @@ returns-clause-first g c =
       pages = c.in_ok-monitor.ensures.kept.pages ∙ ap₂ page_state grants (sym memory);
       size = ap length memory ∙ c.word.ensures.size;
       kept = c.in_ok-monitor.ensures.first;
-      tables = subst (λ (m : List ℕ). HasWords m c.in_ok-monitor.monitor.tables (first_grants policy)) (sym memory)
-          (subst (λ (x : GrantsState). HasWords c.new-3.new.memory c.in_ok-monitor.monitor.tables x) grants
+      tables = subst (λ (m : List ℕ). TablesHaveWords m c.in_ok-monitor.monitor.tables (first_grants policy)) (sym memory)
+          (subst (λ (x : GrantsState). TablesHaveWords c.new-3.new.memory c.in_ok-monitor.monitor.tables x) grants
           (record { words = represented.words; places = represented.places; empty = represented.empty }));
       vectors = subst (λ (m : List ℕ). handler.HasWords m) (sym memory)
           (vectors_first c.install.new.memory c.new-3.new.memory (c.in_ok-monitor.ensures.elsewhere 0 (omega arith)) c.install.ensures.words);
@@ -59,7 +59,7 @@ returns-clause-first g c =
 pub returns-clause-stands : goal.returns-clause-stands
 returns-clause-stands g c =
     let some : 0 < length c.args.policy.now.processes = omega (arith, c.processes.ensures.some) in
-    let whole = c.look_at_processor.ensures.whole in
+    let whole = c.show_whole_processor.ensures.whole in
     let first = returns-clause-first g c in
     let random = ap (λ (x : CoreState). x.random) first.core in
     let low = subst (λ (n : ℕ). 8 ≤ n) random whole.low in

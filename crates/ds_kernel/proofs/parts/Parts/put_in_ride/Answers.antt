@@ -2,21 +2,21 @@ use Rattle.std.proofs.Common.{◌≡◌, ◌+◌, ◌-◌, ◌%◌, ℕ, ◌∙�
 use Rattle.std.specs.Prelude.{slice_index}
 use Rattle.ds_dev.specs.Bus.{BusState}
 use Rattle.ds_core.specs.Core.{CoreState}
-use Rattle.ds_ahead.specs.Ride.{ridden, Rides, behind_answer}
+use Rattle.ds_ahead.specs.Inner.Ride.{ridden, Rides, after_answer}
 use Rattle.ds_procs.specs.declared.call.Call.TheVariants.{Put}
 use Rattle.ds_pagemap.specs.Machine.{process_of}
 use Rattle.ds_pagemap.specs.Calls.{after_put}
 use Rattle.ds_refinement.specs.Held.{Kept}
 use Rattle.ds_monitor.specs.declared.monitor.Monitor.{Monitor}
-use Rattle.ds_monitor.specs.Kept.{kept_of}
-use Rattle.ds_monitor.specs.Room.{HasLogRoom}
+use Rattle.ds_monitor.specs.Inner.Kept.{kept_of}
+use Rattle.ds_monitor.specs.Inner.Room.{HasLogRoom}
 use Rattle.ds_kernel.specs.declared.parts.Parts.{Parts}
-use Rattle.ds_refinement.specs.Services.{with_none_spent}
-use Rattle.ds_kernel.specs.Parts.{own_of}
-use Rattle.ds_kernel.specs.InBlock.{riding, at_call}
+use Rattle.ds_refinement.specs.Inner.Services.{with_none_spent}
+use Rattle.ds_kernel.specs.Inner.Parts.{own_of}
+use Rattle.ds_kernel.specs.Inner.InBlock.{riding, at_call}
 use Rattle.ds_kernel.proofs.AtOnce.{Answers, is_answered, put_answers, asks_put}
 use Rattle.ds_kernel.proofs.Keeping.{first_ready}
-use Rattle.ds_kernel.proofs.OnRides.{behind_is, none_counted, rides_elsewhere}
+use Rattle.ds_kernel.proofs.OnRides.{after_is, none_counted, rides_elsewhere}
 use Rattle.ds_kernel.proofs.parts.Parts.put_in_ride.Goals as goal
 
 pub put_character-requires-clause-within : goal.put_character-requires-clause-within
@@ -51,9 +51,9 @@ returns-clause-answered g c =
     (subst (λ (b : BusState). Answers k.state p old.core.system.epc (Put byte) 0 k.state.queues (after_put k.state p byte).consoles old.bus b) (sym bus)
     (put_answers k.state p old.core.system.epc byte old.bus
     ((first_ready (kept_of here.monitor) p c.requires.first c.requires.lawful).0, (first_ready (kept_of here.monitor) p c.requires.first c.requires.lawful).1)))
-    c.look_at_order.ensures.commands
-    c.look_at_order.ensures.order
-    (went.ensures.core ∙ (ap (λ (x : Parts g.row.L.Denot). behind_answer (ridden c.args.ride.now x.core) 0) c.put_character.ensures.rest ∙ behind_is core here.bus 0 q c.requires.may.outside c.requires.mode))
+    c.show_events_in_order.ensures.commands
+    c.show_events_in_order.ensures.order
+    (went.ensures.core ∙ (ap (λ (x : Parts g.row.L.Denot). after_answer (ridden c.args.ride.now x.core) 0) c.put_character.ensures.rest ∙ after_is core here.bus 0 q c.requires.may.outside c.requires.mode))
     (ap (λ (x : Parts g.row.L.Denot). kept_of x.monitor) went.ensures.rest
     ∙ (ap (λ (z : Kept). record z { state = record z.state { time = z.state.time + less } }) c.put_character.ensures.kept
     ∙ ap (λ (t : ℕ). record k { state = record k.state { consoles = (after_put k.state p byte).consoles; time = t } }) later))

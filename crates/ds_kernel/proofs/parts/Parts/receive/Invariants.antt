@@ -1,9 +1,9 @@
 use Rattle.std.proofs.Common.{◌≡◌, true, length, All}
 use Rattle.ds_dev.specs.Bus.{with_serial}
 use Rattle.ds_pagemap_laws.specs.Due.{come}
-use Rattle.ds_monitor.specs.Kept.{kept_of}
-use Rattle.ds_kernel.specs.Devices.{IsOfLine, all_received}
-use Rattle.ds_kernel.specs.Attended.{to_come}
+use Rattle.ds_monitor.specs.Inner.Kept.{kept_of}
+use Rattle.ds_kernel.specs.Inner.Devices.{IsOfLine, all_received}
+use Rattle.ds_kernel.specs.Inner.Attended.{to_come}
 use Rattle.ds_kernel.proofs.parts.Parts.receive.Given as goal
 
 abbrev pub invariant-loop-character : goal.invariant-loop-character

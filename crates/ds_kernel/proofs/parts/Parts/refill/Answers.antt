@@ -1,14 +1,14 @@
 use Rattle.std.proofs.Common.{refl, ap, subst, sym, arith}
 use Rattle.std.specs.Prelude.{is_some}
 use Rattle.ds_core.specs.Core.{CoreState}
-use Rattle.ds_refill.specs.Refill.{handler_events}
-use Rattle.ds_refill.specs.Refills.{RunsInside}
+use Rattle.ds_refill.specs.Inner.Refill.{handler_events}
+use Rattle.ds_refill.specs.Inner.Refills.{RunsInside}
 use Rattle.ds_refinement.proofs.FirstWord.{first_next, refill_user, refill_outside}
 use Rattle.ds_refinement.proofs.Tallied.{few_of}
 use Rattle.ds_refinement.proofs.WordTallies.{word_room}
 use Rattle.ds_kernel.specs.declared.parts.Parts.{Parts}
-use Rattle.ds_kernel.specs.Parts.{held}
-use Rattle.ds_kernel.specs.Good.{IsGood}
+use Rattle.ds_kernel.specs.Inner.Parts.{held}
+use Rattle.ds_kernel.specs.Inner.Good.{IsGood}
 use Rattle.ds_kernel.proofs.Refilling.{missed_kernel, missed_at, refilled_is, refill_good, refill_goes}
 use Rattle.ds_kernel.proofs.parts.Parts.refill.Goals as goal
 

@@ -1,7 +1,7 @@
 use Rattle.std.proofs.Common.{sym, subst}
-use Rattle.ds_ahead.specs.Ride.{ridden}
+use Rattle.ds_ahead.specs.Inner.Ride.{ridden}
 use Rattle.ds_kernel.specs.declared.parts.Parts.{Parts}
-use Rattle.ds_kernel.specs.InBlock.{IsBehindCall}
+use Rattle.ds_kernel.specs.Inner.InBlock.{IsBehindCall}
 use Rattle.ds_kernel.proofs.OnRides.{block_opened, block_closed, on_some}
 use Rattle.ds_kernel.proofs.parts.Parts.ride.Goals as goal
 

@@ -1,6 +1,6 @@
 use Rattle.std.proofs.Common.{◌≡◌, ◌≤◌, ◌+◌, ℕ, sym, subst, arith}
-use Rattle.ds_ahead.specs.Ride.{ridden}
-use Rattle.ds_kernel.specs.InBlock.{InBlock, IsBehindCall, riding}
+use Rattle.ds_ahead.specs.Inner.Ride.{ridden}
+use Rattle.ds_kernel.specs.Inner.InBlock.{InBlock, IsBehindCall, riding}
 use Rattle.ds_kernel.proofs.OnRides.{block_on, block_same, block_anew, call_same}
 use Rattle.ds_kernel.proofs.parts.Parts.ride_on.Goals as goal
 
@@ -49,11 +49,11 @@ returns-then-not-answer_in_ride-clause-calls g c = λ call.
     let still = c.answer_in_ride.ensures.still c.if-not-answer_in_ride.true in
     call_same is.new.ride is.new.self (is.ensures.calls call) c.answer_in_ride.new.self c.answer_in_ride.new.ride still.0 still.1
 
-pub returns-then-not-goes_on_behind-clause-over : goal.returns-then-not-goes_on_behind-clause-over
-returns-then-not-goes_on_behind-clause-over g c = λ _ begun k.
+pub returns-then-not-goes_on_after-clause-over : goal.returns-then-not-goes_on_after-clause-over
+returns-then-not-goes_on_after-clause-over g c = λ _ begun k.
     let was = c.loop-self in
     let is = c.run_ride-next in
-    c.answer_in_ride.ensures.behind c.if-not-answer_in_ride.false begun
+    c.answer_in_ride.ensures.afterwards c.if-not-answer_in_ride.false begun
     (block_on begun c.args.n c.args.end was.mark was.ride.left was.before (ridden was.ride was.self.core) was.self (was.invariant.block begun k) is.new.ride.left (ridden is.new.ride is.new.self.core) is.new.self is.ensures.rest is.ensures.within is.ensures.steps is.ensures.words)
 
 pub loop-self-preserved : goal.loop-self-preserved
@@ -68,9 +68,9 @@ loop-self-preserved g c =
       placed = answered.ensures.placed c.if-not-answer_in_ride.false;
       within = omega (arith, one, within, upto);
       block = λ begun k.
-          let behind : IsBehindCall begun c.args.n c.args.end answered.new.ride.left (riding answered.new.ride answered.new.self) = answered.ensures.behind c.if-not-answer_in_ride.false begun
+          let afterwards : IsBehindCall begun c.args.n c.args.end answered.new.ride.left (riding answered.new.ride answered.new.self) = answered.ensures.afterwards c.if-not-answer_in_ride.false begun
           (block_on begun c.args.n c.args.end was.mark was.ride.left was.before (ridden was.ride was.self.core) was.self (was.invariant.block begun k) is.new.ride.left (ridden is.new.ride is.new.self.core) is.new.self is.ensures.rest is.ensures.within is.ensures.steps is.ensures.words) in
           subst (λ (m : ℕ). InBlock begun c.args.n c.args.end m answered.new.ride.left answered.new.before (ridden answered.new.ride answered.new.self.core) answered.new.self) (sym (answered.ensures.mark c.if-not-answer_in_ride.false))
           (subst (λ (b : ℕ). InBlock begun c.args.n c.args.end answered.new.ride.left answered.new.ride.left b (ridden answered.new.ride answered.new.self.core) answered.new.self) (sym (answered.ensures.before c.if-not-answer_in_ride.false))
-          (block_anew begun c.args.n c.args.end answered.new.ride.left answered.new.ride answered.new.self behind (c.goes_on_behind.ensures.some c.if-not-goes_on_behind.false) (c.goes_on_behind.ensures.room c.if-not-goes_on_behind.false) c.goes_on_behind.ensures.commands c.goes_on_behind.ensures.order));
+          (block_anew begun c.args.n c.args.end answered.new.ride.left answered.new.ride answered.new.self afterwards (c.goes_on_after.ensures.some c.if-not-goes_on_after.false) (c.goes_on_after.ensures.room c.if-not-goes_on_after.false) c.goes_on_after.ensures.commands c.goes_on_after.ensures.order));
     }

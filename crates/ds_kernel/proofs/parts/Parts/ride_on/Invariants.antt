@@ -1,7 +1,7 @@
 use Rattle.std.proofs.Common.{◌≤◌}
-use Rattle.ds_ahead.specs.Ride.{ridden, Rides, IsPlaced}
+use Rattle.ds_ahead.specs.Inner.Ride.{ridden, Rides, IsPlaced}
 use Rattle.ds_refinement.specs.Held.{Held}
-use Rattle.ds_kernel.specs.InBlock.{InBlock}
+use Rattle.ds_kernel.specs.Inner.InBlock.{InBlock}
 use Rattle.ds_kernel.proofs.parts.Parts.ride_on.Given as goal
 
 abbrev pub invariant-loop-self : goal.invariant-loop-self

@@ -1,5 +1,5 @@
 use Rattle.std.proofs.Common.{◌∙◌, refl, sym, arith, inl, inr}
-use Rattle.ds_kernel.specs.Parts.{held}
+use Rattle.ds_kernel.specs.Inner.Parts.{held}
 use Rattle.ds_kernel.proofs.Running.{no_run, failed_again, none_begun, still_goes}
 use Rattle.ds_kernel.proofs.parts.Parts.run.Goals as goal
 

@@ -1,9 +1,9 @@
 use Rattle.std.proofs.Common.{◌≡◌, ◌<◌, ◌⊎◌, false}
 use Rattle.ds_refinement.specs.Runs.{held_goes_on}
-use Rattle.ds_kernel.specs.Parts.{held}
-use Rattle.ds_kernel.specs.Good.{IsGood}
-use Rattle.ds_kernel.specs.Ran.{HasRun}
-use Rattle.ds_kernel.specs.Going.{rank}
+use Rattle.ds_kernel.specs.Inner.Parts.{held}
+use Rattle.ds_kernel.specs.Inner.Good.{IsGood}
+use Rattle.ds_kernel.specs.Inner.Ran.{HasRun}
+use Rattle.ds_kernel.specs.Inner.Going.{rank}
 use Rattle.ds_kernel.proofs.parts.Parts.run.Given as goal
 
 abbrev pub invariant-loop-self : goal.invariant-loop-self

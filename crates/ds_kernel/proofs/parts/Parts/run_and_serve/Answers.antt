@@ -1,5 +1,5 @@
 use Rattle.std.proofs.Common.{◌≡◌, ◌≤◌, arith}
-use Rattle.ds_kernel.specs.Parts.{held}
+use Rattle.ds_kernel.specs.Inner.Parts.{held}
 use Rattle.ds_kernel.proofs.parts.Parts.run_and_serve.Goals as goal
 
 pub serve_raised-requires-clause-begun : goal.serve_raised-requires-clause-begun

@@ -1,5 +1,5 @@
-use Rattle.ds_kernel.specs.Parts.{held}
-use Rattle.ds_kernel.specs.InBlock.{InBlock}
+use Rattle.ds_kernel.specs.Inner.Parts.{held}
+use Rattle.ds_kernel.specs.Inner.InBlock.{InBlock}
 use Rattle.ds_kernel.proofs.parts.Parts.run_block.Given as goal
 
 abbrev pub invariant-loop-left : goal.invariant-loop-left

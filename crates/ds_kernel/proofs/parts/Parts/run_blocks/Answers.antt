@@ -1,7 +1,7 @@
 use Rattle.std.proofs.Common.{◌≡◌, ◌+◌, ◌<◌, ◌≤◌, ◌∙◌, ap, arith}
-use Rattle.ds_ahead.specs.Ahead.{owed_tick}
-use Rattle.ds_kernel.specs.Parts.{held}
-use Rattle.ds_kernel.specs.Going.{GoesOn}
+use Rattle.ds_ahead.specs.Inner.Ahead.{owed_tick}
+use Rattle.ds_kernel.specs.Inner.Parts.{held}
+use Rattle.ds_kernel.specs.Inner.Going.{GoesOn}
 use Rattle.ds_kernel.proofs.Running.{goes_join}
 use Rattle.ds_kernel.proofs.parts.Parts.run_blocks.Goals as goal
 

@@ -1,11 +1,11 @@
 use Rattle.std.proofs.Common.{◌≡◌, false, ◌+◌, ◌≤◌}
-use Rattle.ds_ahead.specs.Ahead.{owed_tick}
-use Rattle.ds_refinement.specs.Blocks.{MayRunAhead}
+use Rattle.ds_ahead.specs.Inner.Ahead.{owed_tick}
+use Rattle.ds_refinement.specs.Inner.Blocks.{MayRunAhead}
 use Rattle.ds_refinement.specs.Held.{Held}
-use Rattle.ds_monitor.specs.Room.{HasRoom}
-use Rattle.ds_kernel.specs.Parts.{held}
-use Rattle.ds_kernel.specs.Good.{IsGood}
-use Rattle.ds_kernel.specs.Going.{rank, GoesOn}
+use Rattle.ds_monitor.specs.Inner.Room.{HasRoom}
+use Rattle.ds_kernel.specs.Inner.Parts.{held}
+use Rattle.ds_kernel.specs.Inner.Good.{IsGood}
+use Rattle.ds_kernel.specs.Inner.Going.{rank, GoesOn}
 use Rattle.ds_kernel.proofs.parts.Parts.run_blocks.Given as goal
 
 abbrev pub invariant-loop-ahead : goal.invariant-loop-ahead

@@ -1,5 +1,5 @@
 use Rattle.std.proofs.Common.{◌+◌, sym, subst}
-use Rattle.ds_monitor.specs.Room.{HasLogRoom}
+use Rattle.ds_monitor.specs.Inner.Room.{HasLogRoom}
 use Rattle.ds_kernel.specs.declared.parts.Parts.{Parts}
 use Rattle.ds_kernel.proofs.parts.Parts.serve_call.Goals as goal
 

@@ -1,8 +1,8 @@
 use Rattle.std.proofs.Common.{◌∙◌, sym, subst}
 use Rattle.ds_kernel.specs.declared.parts.Parts.{Parts}
-use Rattle.ds_kernel.specs.Parts.{held}
-use Rattle.ds_kernel.specs.Good.{IsBusy}
-use Rattle.ds_kernel.specs.Going.{GoesOn}
+use Rattle.ds_kernel.specs.Inner.Parts.{held}
+use Rattle.ds_kernel.specs.Inner.Good.{IsBusy}
+use Rattle.ds_kernel.specs.Inner.Going.{GoesOn}
 use Rattle.ds_kernel.proofs.Doing.{kernel_of, busy_served}
 use Rattle.ds_kernel.proofs.Running.{goes_join}
 use Rattle.ds_kernel.proofs.Refilling.{missed_kernel}

@@ -1,18 +1,19 @@
 use Rattle.std.proofs.Common.{◌≡◌, ◌∙◌, ℕ, List, map, refl, sym, ap, subst}
 use Rattle.ds_tlb.specs.declared.entry.Entry.{Entry}
 use Rattle.ds_dev.specs.Bus.{BusState, is_enabled}
-use Rattle.ds_grants.specs.Represented.{IsRepresented, IsLow}
+use Rattle.ds_grants.specs.Represented.{IsRepresented}
+use Rattle.ds_grants.specs.Inner.Represented.{IsLow}
 use Rattle.ds_refinement.specs.Held.{Kept}
 use Rattle.ds_refinement.specs.Pairs.{HasNoNewPairs}
-use Rattle.ds_refinement.specs.Services.{Serves, seated}
-use Rattle.ds_monitor.specs.Kept.{kept_of}
-use Rattle.ds_monitor.specs.Commands.{with_ends, commanded}
+use Rattle.ds_refinement.specs.Inner.Services.{Serves, seated}
+use Rattle.ds_monitor.specs.Inner.Kept.{kept_of}
+use Rattle.ds_monitor.specs.Inner.Commands.{with_ends, commanded}
 use Rattle.ds_monitor.specs.declared.monitor.Monitor.{Monitor}
 use Rattle.ds_monitor.proofs.Low.{low_then}
 use Rattle.ds_refinement.proofs.NoNewPairs.{joined_pairs}
 use Rattle.ds_kernel.specs.declared.parts.Parts.{Parts}
-use Rattle.ds_kernel.specs.Devices.{typed}
-use Rattle.ds_kernel.specs.Attended.{runner_of, unowed, ruled}
+use Rattle.ds_kernel.specs.Inner.Devices.{typed}
+use Rattle.ds_kernel.specs.Inner.Attended.{runner_of, unowed, ruled}
 use Rattle.ds_kernel.proofs.Sharing.{rules}
 use Rattle.ds_kernel.proofs.parts.Parts.serve_turn.Goals as goal
 

@@ -1,4 +1,4 @@
-use Rattle.ds_kernel.specs.Parts.{held}
+use Rattle.ds_kernel.specs.Inner.Parts.{held}
 use Rattle.ds_kernel.proofs.Doing.{kernel_of}
 use Rattle.ds_kernel.proofs.Running.{step_goes, goes_join, raised_goes_on}
 use Rattle.ds_kernel.proofs.parts.Parts.serve_waiting.Goals as goal

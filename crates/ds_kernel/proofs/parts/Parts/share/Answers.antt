@@ -1,6 +1,6 @@
 use Rattle.std.proofs.Common.{[]}
-use Rattle.ds_refinement.specs.Held.{whole}
-use Rattle.ds_monitor.specs.Kept.{kept_of}
+use Rattle.ds_refinement.specs.Inner.Held.{whole}
+use Rattle.ds_monitor.specs.Inner.Kept.{kept_of}
 use Rattle.ds_kernel.proofs.Sharing.{rotated_orderly, first_within}
 use Rattle.ds_kernel.proofs.parts.Parts.share.Goals as goal
 

@@ -1,7 +1,7 @@
 use Rattle.std.proofs.Common.{◌≡◌, ◌∙◌, ◌*◌, ◌%◌, length, ap, subst, arith, rules}
 use Rattle.ds_word.specs.Merge.{with_bits}
 use Rattle.ds_word.specs.Bytes.{word_at, with_word}
-use Rattle.ds_mem.specs.Memory.{AreBytes}
+use Rattle.ds_mem.specs.Inner.Memory.{AreBytes}
 use Rattle.ds_mem.proofs.Parts.{half_in_word}
 use Rattle.ds_mem.proofs.memory.Memory.put_half.Goals as goal
 

@@ -2,11 +2,11 @@ use Rattle.std.proofs.Common.{◌∙◌, ◌+◌, ℕ, List, refl, sym, ap, subs
 use Rattle.ds_pagemap.specs.Machine.{State}
 use Rattle.ds_pagemap.specs.Calls.{after_command}
 use Rattle.ds_refinement.specs.Held.{Kept}
-use Rattle.ds_refinement.specs.Services.{Serves}
+use Rattle.ds_refinement.specs.Inner.Services.{Serves}
 use Rattle.ds_monitor.specs.declared.monitor.Monitor.{Monitor}
-use Rattle.ds_monitor.specs.Kept.{kept_of}
-use Rattle.ds_monitor.specs.Room.{HasLogRoom}
-use Rattle.ds_monitor.specs.Commands.{with_refusal}
+use Rattle.ds_monitor.specs.Inner.Kept.{kept_of}
+use Rattle.ds_monitor.specs.Inner.Room.{HasLogRoom}
+use Rattle.ds_monitor.specs.Inner.Commands.{with_refusal}
 use Rattle.ds_monitor.proofs.Commanding.{refusal_serves}
 use Rattle.ds_monitor.proofs.Lawful.{command_orderly}
 use Rattle.ds_monitor.proofs.monitor.Monitor.command.Goals as goal

@@ -4,16 +4,16 @@ use Rattle.ds_policy.specs.Value.{InputValue}
 use Rattle.ds_policy.specs.InputFacts.{has_time}
 use Rattle.ds_pagemap.specs.Machine.{State}
 use Rattle.ds_pagemap.specs.Calls.{after_command}
-use Rattle.ds_monitor.specs.Orderly.{IsOrderly}
-use Rattle.ds_grants.specs.Represented.{IsLow, Keeps}
+use Rattle.ds_monitor.specs.Inner.Orderly.{IsOrderly}
+use Rattle.ds_grants.specs.Inner.Represented.{IsLow, Keeps}
 use Rattle.ds_dev.specs.Bus.{BusState}
 use Rattle.ds_refinement.specs.Held.{Kept}
-use Rattle.ds_refinement.specs.Services.{Serves}
+use Rattle.ds_refinement.specs.Inner.Services.{Serves}
 use Rattle.ds_refinement.proofs.NoNewPairs.{same_pairs, joined_pairs}
 use Rattle.ds_monitor.specs.declared.monitor.Monitor.{Monitor}
-use Rattle.ds_monitor.specs.Kept.{kept_of}
-use Rattle.ds_monitor.specs.Room.{HasLogRoom}
-use Rattle.ds_monitor.specs.Commands.{commanded, commands_by}
+use Rattle.ds_monitor.specs.Inner.Kept.{kept_of}
+use Rattle.ds_monitor.specs.Inner.Room.{HasLogRoom}
+use Rattle.ds_monitor.specs.Inner.Commands.{commanded, commands_by}
 use Rattle.ds_monitor.proofs.Commanding.{taken, commanded_then, commanded_end, by_next, good_first, fewer_lines}
 use Rattle.ds_monitor.proofs.Low.{low_same, low_then}
 use Rattle.ds_monitor.proofs.Lawful.{taken_orderly}

@@ -1,12 +1,12 @@
 use Rattle.std.proofs.Common.{◌≡◌, ◌+◌, ◌≤◌, ℕ, List, length}
-use Rattle.ds_grants.specs.Represented.{IsLow, Keeps}
+use Rattle.ds_grants.specs.Inner.Represented.{IsLow, Keeps}
 use Rattle.ds_refinement.specs.Held.{Kept}
 use Rattle.ds_refinement.specs.Pairs.{HasNoNewPairs}
-use Rattle.ds_refinement.specs.Services.{Serves}
-use Rattle.ds_monitor.specs.Kept.{kept_of}
-use Rattle.ds_monitor.specs.Commands.{commanded, commands_by}
-use Rattle.ds_monitor.specs.Orderly.{IsOrderly}
-use Rattle.ds_monitor.specs.Room.{HasLogRoom}
+use Rattle.ds_refinement.specs.Inner.Services.{Serves}
+use Rattle.ds_monitor.specs.Inner.Kept.{kept_of}
+use Rattle.ds_monitor.specs.Inner.Commands.{commanded, commands_by}
+use Rattle.ds_monitor.specs.Inner.Orderly.{IsOrderly}
+use Rattle.ds_monitor.specs.Inner.Room.{HasLogRoom}
 use Rattle.ds_monitor.proofs.monitor.Monitor.commands.Given as goal
 
 abbrev pub invariant-loop-order : goal.invariant-loop-order

@@ -5,8 +5,8 @@ use Rattle.ds_grants.specs.State.{page_state}
 use Rattle.ds_pagemap.specs.Machine.{State}
 use Rattle.ds_pagemap.specs.Calls.{served}
 use Rattle.ds_refinement.specs.Held.{Kept}
-use Rattle.ds_refinement.specs.Services.{Serves}
-use Rattle.ds_monitor.specs.Kept.{kept_of}
+use Rattle.ds_refinement.specs.Inner.Services.{Serves}
+use Rattle.ds_monitor.specs.Inner.Kept.{kept_of}
 use Rattle.ds_monitor.proofs.Granting.{number_serves}
 use Rattle.ds_monitor.proofs.Forgetting.{answered_pairs}
 use Rattle.ds_monitor.proofs.monitor.Monitor.drop_own.Goals as goal

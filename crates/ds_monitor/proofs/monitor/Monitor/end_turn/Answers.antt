@@ -1,4 +1,4 @@
-use Rattle.ds_monitor.specs.Kept.{kept_of}
+use Rattle.ds_monitor.specs.Inner.Kept.{kept_of}
 use Rattle.ds_monitor.proofs.Lawful.{turn_orderly}
 use Rattle.ds_monitor.proofs.monitor.Monitor.end_turn.Goals as goal
 

@@ -1,6 +1,6 @@
 use Rattle.std.proofs.Common.{sym, subst}
 use Rattle.ds_policy.specs.Ends.{has_expired}
-use Rattle.ds_grants.specs.Changes.{all_places}
+use Rattle.ds_grants.specs.Inner.Changes.{all_places}
 use Rattle.ds_refinement.specs.Pairs.{HasNoNewPairs}
 use Rattle.ds_refinement.proofs.NoNewPairs.{all_forgotten_pairs}
 use Rattle.ds_monitor.proofs.monitor.Monitor.expire.Goals as goal

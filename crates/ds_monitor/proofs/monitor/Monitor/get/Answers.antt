@@ -2,8 +2,8 @@ use Rattle.std.proofs.Common.{◌∙◌, ℕ, ap, refl}
 use Rattle.ds_pagemap.specs.Machine.{State}
 use Rattle.ds_pagemap.specs.Calls.{answered, queue_of}
 use Rattle.ds_refinement.specs.Held.{Kept}
-use Rattle.ds_monitor.specs.Taking.{with_taken}
-use Rattle.ds_monitor.specs.Kept.{kept_of, kept_after}
+use Rattle.ds_monitor.specs.Inner.Taking.{with_taken}
+use Rattle.ds_monitor.specs.Inner.Kept.{kept_of, kept_after}
 use Rattle.ds_monitor.proofs.Gets.{taken_answered}
 use Rattle.ds_monitor.proofs.monitor.Monitor.get.Goals as goal
 

@@ -1,12 +1,13 @@
 use Rattle.std.proofs.Common.{◌∙◌, sym, ap, subst, refl, Err}
 use Rattle.ds_procs.specs.declared.call.Call.TheVariants as call
-use Rattle.ds_grants.specs.Represented.{Keeps}
+use Rattle.ds_grants.specs.Inner.Represented.{Keeps}
 use Rattle.ds_pagemap.specs.Machine.{State}
 use Rattle.ds_pagemap.specs.Calls.{or_denied, served}
-use Rattle.ds_refinement.specs.Held.{Kept, whole}
-use Rattle.ds_refinement.specs.Services.{Serves}
+use Rattle.ds_refinement.specs.Held.{Kept}
+use Rattle.ds_refinement.specs.Inner.Held.{whole}
+use Rattle.ds_refinement.specs.Inner.Services.{Serves}
 use Rattle.ds_monitor.specs.declared.monitor.Monitor.{Monitor}
-use Rattle.ds_monitor.specs.Kept.{kept_of}
+use Rattle.ds_monitor.specs.Inner.Kept.{kept_of}
 use Rattle.ds_monitor.proofs.Serving.{serves_as}
 use Rattle.ds_monitor.proofs.Granting.{gives, answered_serves, serves_before}
 use Rattle.ds_monitor.proofs.Forgetting.{given_pairs}

@@ -4,16 +4,17 @@ use Rattle.ds_policy.specs.Value.{InputValue}
 use Rattle.ds_policy.specs.Ends.{NoneEndsBefore}
 use Rattle.ds_grants.specs.State.{GrantsState, pages_in}
 use Rattle.ds_grants.specs.First.{first_grants}
-use Rattle.ds_asid.specs.Spaces.{Spaces, after_take}
+use Rattle.ds_asid.specs.Spaces.{Spaces}
+use Rattle.ds_asid.specs.Inner.Spaces.{after_take}
 use Rattle.ds_grants.specs.Represented.{IsRepresented}
 use Rattle.ds_grants.proofs.Handing.{takes_number}
 use Rattle.ds_pagemap.specs.First.{first_process, first_state, numbers}
 use Rattle.ds_refinement.specs.Held.{Kept}
 use Rattle.ds_refinement.specs.First.{first_kept}
-use Rattle.ds_refinement.specs.Stands.{IsKept}
-use Rattle.ds_monitor.specs.Orderly.{IsOrderly}
-use Rattle.ds_monitor.specs.Kept.{kept_of}
-use Rattle.ds_monitor.specs.Coming.{next_due}
+use Rattle.ds_refinement.specs.Inner.Stands.{IsKept}
+use Rattle.ds_monitor.specs.Inner.Orderly.{IsOrderly}
+use Rattle.ds_monitor.specs.Inner.Kept.{kept_of}
+use Rattle.ds_monitor.specs.Inner.Coming.{next_due}
 use Rattle.ds_monitor.specs.declared.monitor.Monitor.{Monitor}
 use Rattle.ds_monitor.proofs.Beginning.{begins, first_is_kept, first_orderly}
 use Rattle.ds_monitor.proofs.monitor.Monitor.new.Goals as goal

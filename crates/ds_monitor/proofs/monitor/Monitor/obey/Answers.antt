@@ -3,13 +3,14 @@ use Rattle.ds_policy.specs.declared.command.Command.{Command}
 use Rattle.ds_policy.specs.declared.command.Command.TheVariants as command
 use Rattle.ds_policy.specs.Grants.{grant, narrow, revoke, drop_by_command}
 use Rattle.ds_log.specs.declared.line.Line.{Line}
-use Rattle.ds_grants.specs.Changes.{family_places}
-use Rattle.ds_grants.specs.State.{lives_in, page_state}
+use Rattle.ds_grants.specs.Inner.Changes.{family_places}
+use Rattle.ds_grants.specs.State.{page_state}
+use Rattle.ds_grants.specs.Inner.State.{lives_in}
 use Rattle.ds_pagemap.specs.Machine.{lives}
 use Rattle.ds_pagemap.specs.Calls.{or_logged}
-use Rattle.ds_refinement.specs.Held.{whole}
-use Rattle.ds_monitor.specs.Kept.{kept_of}
-use Rattle.ds_monitor.specs.Commands.{Obeys}
+use Rattle.ds_refinement.specs.Inner.Held.{whole}
+use Rattle.ds_monitor.specs.Inner.Kept.{kept_of}
+use Rattle.ds_monitor.specs.Inner.Commands.{Obeys}
 use Rattle.ds_monitor.proofs.Commanding.{grants_obey}
 use Rattle.ds_monitor.proofs.Forgetting.{answered_pairs, family_pairs}
 use Rattle.ds_monitor.proofs.Living.{lives_as, grant_as, narrow_as, revoke_as, drop_as}

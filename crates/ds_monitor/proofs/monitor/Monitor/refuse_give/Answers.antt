@@ -6,9 +6,9 @@ use Rattle.ds_log.specs.Text.{line_text}
 use Rattle.ds_pagemap.specs.Machine.{State}
 use Rattle.ds_pagemap.specs.Calls.{or_denied}
 use Rattle.ds_refinement.specs.Held.{Kept}
-use Rattle.ds_refinement.specs.Services.{Serves}
-use Rattle.ds_monitor.specs.Kept.{kept_of}
-use Rattle.ds_monitor.specs.Room.{HasLogRoom}
+use Rattle.ds_refinement.specs.Inner.Services.{Serves}
+use Rattle.ds_monitor.specs.Inner.Kept.{kept_of}
+use Rattle.ds_monitor.specs.Inner.Room.{HasLogRoom}
 use Rattle.ds_monitor.proofs.Granting.{denied, denied_serves}
 use Rattle.ds_monitor.proofs.monitor.Monitor.refuse_give.Goals as goal
 

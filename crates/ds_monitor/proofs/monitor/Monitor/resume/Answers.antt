@@ -2,8 +2,8 @@ use Rattle.std.proofs.Common.{◌∙◌, sym, ap, refl}
 use Rattle.ds_procs.specs.declared.process.Standing.TheVariants.{Ready}
 use Rattle.ds_pagemap.specs.Machine.{process_of}
 use Rattle.ds_refinement.specs.Held.{Kept}
-use Rattle.ds_monitor.specs.Kept.{kept_of}
-use Rattle.ds_monitor.specs.Ended.{marks_of}
+use Rattle.ds_monitor.specs.Inner.Kept.{kept_of}
+use Rattle.ds_monitor.specs.Inner.Ended.{marks_of}
 use Rattle.ds_monitor.proofs.Lawful.{marks_put}
 use Rattle.ds_monitor.proofs.Living.{lives_alive}
 use Rattle.ds_monitor.proofs.monitor.Monitor.resume.Goals as goal

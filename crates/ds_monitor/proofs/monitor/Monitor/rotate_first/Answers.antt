@@ -1,8 +1,8 @@
 use Rattle.std.proofs.Common.{◌∙◌, ℕ, List, [], ◌∷◌, ◌++◌, ap, drop, take}
-use Rattle.ds_procs.specs.Queue.{without}
+use Rattle.ds_procs.specs.Inner.Queue.{without}
 use Rattle.ds_refinement.specs.Held.{Kept}
 use Rattle.ds_monitor.specs.declared.monitor.Monitor.{Monitor}
-use Rattle.ds_monitor.specs.Kept.{kept_of}
+use Rattle.ds_monitor.specs.Inner.Kept.{kept_of}
 use Rattle.ds_monitor.proofs.Waking.{first_to_end}
 use Rattle.ds_monitor.proofs.monitor.Monitor.rotate_first.Goals as goal
 

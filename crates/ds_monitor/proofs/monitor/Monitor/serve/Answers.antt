@@ -3,8 +3,8 @@ use Rattle.ds_procs.specs.declared.call.Call.{Call}
 use Rattle.ds_procs.specs.declared.call.Call.TheVariants as call
 use Rattle.ds_pagemap.specs.Machine.{State}
 use Rattle.ds_pagemap.specs.Calls.{served}
-use Rattle.ds_refinement.specs.Services.{Serves}
-use Rattle.ds_monitor.specs.Kept.{kept_of}
+use Rattle.ds_refinement.specs.Inner.Services.{Serves}
+use Rattle.ds_monitor.specs.Inner.Kept.{kept_of}
 use Rattle.ds_monitor.proofs.Called.{by_kept, waits}
 use Rattle.ds_monitor.proofs.monitor.Monitor.serve.Goals as goal
 

@@ -2,8 +2,8 @@ use Rattle.std.proofs.Common.{◌∙◌, ◌-◌, sym, ap, true, List, []}
 use Rattle.std.specs.Prelude.{Bool, slice_set}
 use Rattle.std.proofs.lemmas.List.{map-set}
 use Rattle.ds_pagemap.specs.Machine.{State, Process, has_ended}
-use Rattle.ds_monitor.specs.Kept.{kept_of}
-use Rattle.ds_monitor.specs.Ended.{marks_of}
+use Rattle.ds_monitor.specs.Inner.Kept.{kept_of}
+use Rattle.ds_monitor.specs.Inner.Ended.{marks_of}
 use Rattle.ds_monitor.proofs.monitor.Monitor.stop.Goals as goal
 
 pub returns-clause-marks : goal.returns-clause-marks

@@ -6,9 +6,9 @@ use Rattle.ds_pagemap.specs.Machine.{State}
 use Rattle.ds_pagemap.specs.Unit.{Stop, at_pc}
 use Rattle.ds_refinement.specs.Held.{Kept}
 use Rattle.ds_refinement.specs.Units.{ends_in_stop}
-use Rattle.ds_refinement.specs.Services.{Serves}
-use Rattle.ds_monitor.specs.Kept.{kept_of, kept_after}
-use Rattle.ds_monitor.specs.Room.{HasLogRoom}
+use Rattle.ds_refinement.specs.Inner.Services.{Serves}
+use Rattle.ds_monitor.specs.Inner.Kept.{kept_of, kept_after}
+use Rattle.ds_monitor.specs.Inner.Room.{HasLogRoom}
 use Rattle.ds_monitor.proofs.Stops.{stopped, stops}
 use Rattle.ds_monitor.proofs.Lawful.{stop_orderly}
 use Rattle.ds_monitor.proofs.monitor.Monitor.stop_unit.Goals as goal

@@ -1,6 +1,6 @@
 use Rattle.std.proofs.Common.{◌∙◌, sym}
 use Rattle.ds_pagemap.specs.Calls.{queue_of}
-use Rattle.ds_monitor.specs.Kept.{kept_of}
+use Rattle.ds_monitor.specs.Inner.Kept.{kept_of}
 use Rattle.ds_monitor.proofs.Gets.{got_some, got_none}
 use Rattle.ds_monitor.proofs.monitor.Monitor.take_answer.Goals as goal
 

@@ -1,13 +1,14 @@
 use Rattle.std.proofs.Common.{sym, subst, refl}
 use Rattle.ds_procs.specs.declared.call.Call.TheVariants as call
 use Rattle.ds_policy.specs.Grants.{take}
-use Rattle.ds_grants.specs.Changes.{family_places}
-use Rattle.ds_grants.specs.State.{lives_in, page_state}
+use Rattle.ds_grants.specs.Inner.Changes.{family_places}
+use Rattle.ds_grants.specs.State.{page_state}
+use Rattle.ds_grants.specs.Inner.State.{lives_in}
 use Rattle.ds_pagemap.specs.Machine.{State, lives}
 use Rattle.ds_pagemap.specs.Calls.{served}
 use Rattle.ds_refinement.specs.Held.{Kept}
-use Rattle.ds_refinement.specs.Services.{Serves}
-use Rattle.ds_monitor.specs.Kept.{kept_of}
+use Rattle.ds_refinement.specs.Inner.Services.{Serves}
+use Rattle.ds_monitor.specs.Inner.Kept.{kept_of}
 use Rattle.ds_monitor.proofs.Granting.{takes, number_serves}
 use Rattle.ds_monitor.proofs.Forgetting.{family_pairs}
 use Rattle.ds_monitor.proofs.monitor.Monitor.take_back.Goals as goal

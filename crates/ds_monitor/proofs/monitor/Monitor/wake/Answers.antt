@@ -3,7 +3,7 @@ use Rattle.std.specs.Prelude.{All}
 use Rattle.ds_pagemap.specs.Machine.{State}
 use Rattle.ds_pagemap.specs.Boundary.{woken}
 use Rattle.ds_refinement.specs.Held.{Kept}
-use Rattle.ds_monitor.specs.Kept.{kept_of, kept_after}
+use Rattle.ds_monitor.specs.Inner.Kept.{kept_of, kept_after}
 use Rattle.ds_monitor.proofs.Waking.{line_there, wakes_on, wakes_end, none_wakes}
 use Rattle.ds_monitor.proofs.monitor.Monitor.wake.Goals as goal
 

@@ -2,7 +2,7 @@ use Rattle.std.proofs.Common.{◌≡◌, ◌<◌, ◌≤◌, ◌+◌, ◌-◌, l
 use Rattle.std.specs.Prelude.{All}
 use Rattle.ds_pagemap.specs.Boundary.{woken}
 use Rattle.ds_pagemap.specs.Machine.{State, Process}
-use Rattle.ds_monitor.specs.Kept.{kept_of, kept_after}
+use Rattle.ds_monitor.specs.Inner.Kept.{kept_of, kept_after}
 use Rattle.ds_monitor.proofs.monitor.Monitor.wake.Given as goal
 
 abbrev pub invariant-loop-process : goal.invariant-loop-process

@@ -2,7 +2,7 @@ use Rattle.std.proofs.Common.{◌∙◌, sym, ap, true, false, refl, map}
 use Rattle.ds_procs.specs.declared.process.Standing.TheVariants.{Ready}
 use Rattle.ds_pagemap.specs.Machine.{Process, no_process}
 use Rattle.ds_refinement.specs.Held.{Kept}
-use Rattle.ds_monitor.specs.Kept.{kept_of}
+use Rattle.ds_monitor.specs.Inner.Kept.{kept_of}
 use Rattle.ds_monitor.proofs.Waking.{woken_by, lines_same}
 use Rattle.ds_monitor.proofs.monitor.Monitor.wake_one.Goals as goal
 

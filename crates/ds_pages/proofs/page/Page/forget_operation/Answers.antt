@@ -1,6 +1,6 @@
 use Rattle.std.proofs.Common.{ap}
 use Rattle.std.specs.Prelude.{slice_index}
-use Rattle.ds_pages.specs.Places.{Fields, fields_at}
+use Rattle.ds_pages.specs.Inner.Places.{Fields, fields_at}
 use Rattle.ds_pages.proofs.Pages.{page_put, none_means}
 use Rattle.ds_pages.proofs.page.Page.forget_operation.Goals as goal
 

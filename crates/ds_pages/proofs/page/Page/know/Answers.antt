@@ -1,7 +1,7 @@
 use Rattle.std.proofs.Common.{◌≡◌, ℕ, true, ◌∙◌, sym, subst}
 use Rattle.std.specs.Prelude.{slice_index}
-use Rattle.ds_pages.specs.Places.{fields_at}
-use Rattle.ds_pages.specs.Page.{PageState, knows}
+use Rattle.ds_pages.specs.Inner.Places.{fields_at}
+use Rattle.ds_pages.specs.Inner.Page.{KnownPageState, knows}
 use Rattle.ds_pages.proofs.Pages.{page_put, decoded_means, fields_kept}
 use Rattle.ds_pages.proofs.page.Page.know.Goals as goal
 
@@ -14,5 +14,5 @@ invariant_of-self c = page_put c.self.inside.words c.self.inside.places c.put.ne
 
 pub returns-then-not-is_known-clause-fields : goal.returns-then-not-is_known-clause-fields
 returns-then-not-is_known-clause-fields c =
-    subst (λ (s : PageState). (k : ℕ) → knows s k ≡ true → fields_at c.put.new.self k ≡ fields_at s.places k) c.self.view_is
+    subst (λ (s : KnownPageState). (k : ℕ) → knows s k ≡ true → fields_at c.put.new.self k ≡ fields_at s.places k) c.self.view_is
     (fields_kept c.self.inside.places c.put.new.self c.args.i (sym c.is_known.ensures ∙ c.if-not-is_known.true) c.put.ensures.fields)

@@ -1,5 +1,5 @@
 use Rattle.std.proofs.Common.{◌≡◌, ℕ, ◌-◌, true, arith, ◌∙◌, subst}
-use Rattle.ds_pages.specs.Page.{knows}
+use Rattle.ds_pages.specs.Inner.Page.{knows}
 use Rattle.ds_pages.proofs.Pages.{known_kept}
 use Rattle.ds_pages.proofs.page.Page.learn.Goals as goal
 

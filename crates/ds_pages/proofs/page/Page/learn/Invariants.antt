@@ -1,5 +1,5 @@
 use Rattle.std.proofs.Common.{◌≡◌, ℕ, ◌-◌, ◌<◌, ◌≤◌, true}
-use Rattle.ds_pages.specs.Places.{known_at, fields_at}
+use Rattle.ds_pages.specs.Inner.Places.{known_at, fields_at}
 use Rattle.ds_pages.proofs.page.Page.learn.Given as goal
 
 abbrev pub invariant-loop-at : goal.invariant-loop-at

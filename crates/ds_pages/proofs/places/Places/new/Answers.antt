@@ -1,5 +1,5 @@
 use Rattle.std.proofs.Common.{refl, ap}
-use Rattle.ds_pages.specs.Does.{is_known}
+use Rattle.ds_pages.specs.Inner.Does.{is_known}
 use Rattle.ds_pages.proofs.Blank.{does_of_all, turn_of_all, kind_of_all, length_of_all, all_blank}
 use Rattle.ds_pages.proofs.places.Places.new.Goals as goal
 

@@ -1,5 +1,5 @@
 use Rattle.std.proofs.Common.{◌+◌, arith, ◌∙◌, ap}
-use Rattle.ds_pages.specs.Does.{is_known}
+use Rattle.ds_pages.specs.Inner.Does.{is_known}
 use Rattle.ds_pages.proofs.Fits.{rest_fits, others_fit}
 use Rattle.ds_pages.proofs.places.Places.put.Goals as goal
 

@@ -1,5 +1,5 @@
 use Rattle.std.proofs.Common.{ap, ℕ, arith, ◌+◌, ◌∙◌}
-use Rattle.ds_pages.specs.Does.{steps}
+use Rattle.ds_pages.specs.Inner.Does.{steps}
 use Rattle.ds_pages.proofs.Fits.{fits_after}
 use Rattle.ds_pages.proofs.places.Places.refresh.Goals as goal
 

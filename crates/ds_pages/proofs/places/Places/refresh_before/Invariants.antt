@@ -1,5 +1,5 @@
 use Rattle.std.proofs.Common.{◌≡◌, ◌≢◌, ℕ, ◌+◌, ◌<◌, ◌≤◌}
-use Rattle.ds_pages.specs.Places.{known_at, fields_at, FitsAt}
+use Rattle.ds_pages.specs.Inner.Places.{known_at, fields_at, FitsAt}
 use Rattle.ds_pages.proofs.places.Places.refresh_before.Given as goal
 
 abbrev pub invariant-loop-at : goal.invariant-loop-at

@@ -1,6 +1,6 @@
 use Rattle.std.proofs.Common.{◌∙◌, sym, subst, rules, arith, take}
 use Rattle.std.proofs.lemmas.List.{take_more, length-take-le}
-use Rattle.ds_policy.specs.Names.{AreNamed}
+use Rattle.ds_policy.specs.Inner.Names.{AreNamed}
 use Rattle.ds_policy.proofs.NamedPages.{names_more}
 use Rattle.ds_policy.proofs.names.NamedPages.of.Goals as goal
 

@@ -1,5 +1,5 @@
 use Rattle.std.proofs.Common.{◌≡◌, take}
-use Rattle.ds_policy.specs.Names.{AreNamed}
+use Rattle.ds_policy.specs.Inner.Names.{AreNamed}
 use Rattle.ds_policy.proofs.names.NamedPages.of.Given as goal
 
 abbrev pub invariant-loop-page : goal.invariant-loop-page

@@ -2,7 +2,7 @@ use Rattle.std.proofs.Common.{◌≡◌, ◌∙◌, sym, ap, arith, is_some, Non
 use Rattle.ds_policy.specs.declared.cause.PolicyReason.TheVariants as reason
 use Rattle.std.specs.Result.{result_map_both}
 use Rattle.ds_policy.specs.PolicyParts.{new_page}
-use Rattle.ds_policy.specs.Names.{held_number}
+use Rattle.ds_policy.specs.Inner.Names.{held_number}
 use Rattle.ds_policy.proofs.NamedPages.{names_new}
 use Rattle.ds_policy.proofs.Steps.{each_more, each_refused, each_end}
 use Rattle.ds_policy.proofs.reading.pages.pages_in.Goals as goal

@@ -3,7 +3,7 @@ use Rattle.toml.specs.View.{items_view}
 use Rattle.ds_policy.specs.declared.cause.PolicyReason.TheVariants as reason
 use Rattle.ds_policy.specs.PolicyParts.{new_page}
 use Rattle.ds_policy.specs.PolicyText.{each_of}
-use Rattle.ds_policy.specs.Names.{AreNamed}
+use Rattle.ds_policy.specs.Inner.Names.{AreNamed}
 use Rattle.ds_policy.proofs.reading.pages.pages_in.Given as goal
 
 abbrev pub invariant-loop-value : goal.invariant-loop-value

@@ -3,7 +3,7 @@ use Rattle.std.proofs.lemmas.List.{get_or_default}
 use Rattle.toml.specs.View.{view}
 use Rattle.ds_word.specs.ResultBinding.{◌>>=◌}
 use Rattle.ds_policy.specs.PolicyParts.{rule_of, beside, new_rule}
-use Rattle.ds_policy.specs.OwnRules.{own_rules}
+use Rattle.ds_policy.specs.Inner.OwnRules.{own_rules}
 use Rattle.ds_policy.specs.declared.policy.PolicyRule.{PolicyRule}
 use Rattle.ds_policy.proofs.Binds.{ok_weaker}
 use Rattle.ds_policy.proofs.OwnRules.{beside_own}

@@ -1,7 +1,7 @@
 use Rattle.std.proofs.Common.{◌≡◌, ◌∙◌, sym, subst, length, arith, vec_len}
 use Rattle.ds_policy.specs.declared.cause.PolicyReason.TheVariants as reason
 use Rattle.ds_policy.specs.PolicyParts.{new_rule}
-use Rattle.ds_policy.specs.OwnRules.{AreByProcess}
+use Rattle.ds_policy.specs.Inner.OwnRules.{AreByProcess}
 use Rattle.ds_policy.proofs.Steps.{each_more, each_refused, each_end}
 use Rattle.ds_policy.proofs.reading.rules.rules_in.Goals as goal
 

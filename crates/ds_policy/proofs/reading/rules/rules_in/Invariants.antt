@@ -3,7 +3,7 @@ use Rattle.toml.specs.View.{items_view}
 use Rattle.ds_policy.specs.declared.cause.PolicyReason.TheVariants as reason
 use Rattle.ds_policy.specs.PolicyParts.{new_rule}
 use Rattle.ds_policy.specs.PolicyText.{each_of}
-use Rattle.ds_policy.specs.OwnRules.{AreByProcess}
+use Rattle.ds_policy.specs.Inner.OwnRules.{AreByProcess}
 use Rattle.ds_policy.proofs.reading.rules.rules_in.Given as goal
 
 abbrev pub invariant-loop-value : goal.invariant-loop-value

@@ -1,5 +1,5 @@
 use Rattle.std.proofs.Common.{◌≡◌, drop, []}
-use Rattle.ds_policy.specs.Names.{AreHeld}
+use Rattle.ds_policy.specs.Inner.Names.{AreHeld}
 use Rattle.ds_policy.proofs.Sources.{sources_from}
 use Rattle.ds_policy.proofs.reading.sources.sources_of.Given as goal
 

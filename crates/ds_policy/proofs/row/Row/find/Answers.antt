@@ -1,5 +1,5 @@
 use Rattle.std.proofs.Common.{◌∙◌}
-use Rattle.ds_policy.specs.Marks.{no_entry_there}
+use Rattle.ds_policy.specs.Inner.Marks.{no_entry_there}
 use Rattle.ds_policy.proofs.Entries.{found_place}
 use Rattle.ds_policy.proofs.row.Row.find.Goals as goal
 

@@ -1,5 +1,5 @@
 use Rattle.std.proofs.Common.{List, ℕ, rules, sym, subst, ◌∙◌}
-use Rattle.ds_station.specs.Reads.{ShowsGeneral}
+use Rattle.ds_station.specs.Inner.Reads.{ShowsGeneral}
 use Rattle.ds_station.proofs.Showing.{runner_shown, seated_shown}
 use Rattle.ds_station.proofs.station.Station.general.Goals as goal
 

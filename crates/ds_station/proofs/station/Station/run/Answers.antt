@@ -1,6 +1,6 @@
 use Rattle.std.proofs.Common.{sym, subst}
 use Rattle.ds_refinement.specs.Stands.{Stands}
-use Rattle.ds_station.specs.Station.{StationValue}
+use Rattle.ds_station.specs.Inner.Station.{StationValue}
 use Rattle.ds_station.proofs.Quiet.{run_shows}
 use Rattle.ds_station.proofs.station.Station.run.Goals as goal
 

@@ -1,9 +1,9 @@
 use Rattle.std.proofs.Common.{◌≡◌, ◌≤◌, ◌*◌, Bool, false, inl, refl, subst, sym, ◌∙◌, arith}
 use Rattle.ds_refinement.proofs.Joined.{path_join}
 use Rattle.ds_refinement.proofs.RunSteps.{within_start}
-use Rattle.ds_station.specs.Faults.{IsFaultAfter}
+use Rattle.ds_station.specs.Inner.Faults.{IsFaultAfter}
 use Rattle.ds_station.specs.Pieces.{piece}
-use Rattle.ds_station.proofs.InPieces.{cut_join, few_more, few_of, held_goes_wider, no_steps, over_whole, passes, path_failed, piece_within, pieces_behind, to_within, within_join}
+use Rattle.ds_station.proofs.InPieces.{cut_join, few_more, few_of, held_goes_wider, no_steps, over_whole, passes, path_failed, piece_within, pieces_after, to_within, within_join}
 use Rattle.ds_station.proofs.Outcomes.{on_err}
 use Rattle.ds_station.proofs.station.Station.run_at_most.Goals as goal
 
@@ -92,7 +92,7 @@ returns-in-Err-run-clause-faults g c =
 pub returns-then-has_more_than-2-clause-ok : goal.returns-then-has_more_than-2-clause-ok
 returns-then-has_more_than-2-clause-ok g c =
     let b = c.loop-piece in
-    passes c.args.n c.args.most b.piece c.args.n c.args.self.now.held b.self.held c.run-2.new.self.held b.invariant.some b.invariant.path b.invariant.few (omega arith) (pieces_behind c.args.n b.piece c.loop-piece-test.false)
+    passes c.args.n c.args.most b.piece c.args.n c.args.self.now.held b.self.held c.run-2.new.self.held b.invariant.some b.invariant.path b.invariant.few (omega arith) (pieces_after c.args.n b.piece c.loop-piece-test.false)
     c.in-Ok-run.ensures.ok c.in-Ok-run.ensures.over (sym c.has_more_than-2.ensures ∙ c.if-has_more_than-2.true)
 
 pub returns-then-has_more_than-2-clause-within : goal.returns-then-has_more_than-2-clause-within

@@ -1,9 +1,9 @@
 use Rattle.std.proofs.Common.{◌≡◌, ◌<◌, ◌≤◌, [], length, IfSome, subst}
 use Rattle.ds_procs.specs.declared.process.Standing.TheVariants.{Ready}
 use Rattle.ds_pagemap.specs.Machine.{process_of}
-use Rattle.ds_refinement.specs.Held.{whole}
-use Rattle.ds_monitor.specs.Kept.{kept_of}
-use Rattle.ds_station.specs.Station.{StationValue}
+use Rattle.ds_refinement.specs.Inner.Held.{whole}
+use Rattle.ds_monitor.specs.Inner.Kept.{kept_of}
+use Rattle.ds_station.specs.Inner.Station.{StationValue}
 use Rattle.ds_station.proofs.Reading.{first_seat, first_stands}
 use Rattle.ds_station.proofs.station.Station.runner.Goals as goal
 

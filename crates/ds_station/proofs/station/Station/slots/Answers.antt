@@ -1,6 +1,6 @@
 use Rattle.std.proofs.Common.{sym, subst}
-use Rattle.ds_refinement.specs.Stands.{IsSound}
-use Rattle.ds_station.specs.Station.{StationValue}
+use Rattle.ds_refinement.specs.Inner.Stands.{IsSound}
+use Rattle.ds_station.specs.Inner.Station.{StationValue}
 use Rattle.ds_station.proofs.Reading.{all_slots}
 use Rattle.ds_station.proofs.station.Station.slots.Goals as goal
 

@@ -2,10 +2,10 @@ use Rattle.std.proofs.Common.{◌≡◌, sym, subst}
 use Rattle.ds_log.proofs.Sends.{at_err}
 use Rattle.ds_refinement.specs.declared.step.Step.TheVariants.{Inside}
 use Rattle.ds_refinement.specs.Held.{Held}
-use Rattle.ds_refinement.specs.Steps.{Stays}
-use Rattle.ds_refinement.specs.Written.{KeepsWritten}
-use Rattle.ds_kernel.specs.Parts.{held}
-use Rattle.ds_station.specs.Station.{StationValue}
+use Rattle.ds_refinement.specs.Inner.Steps.{Stays}
+use Rattle.ds_refinement.specs.Inner.Written.{KeepsWritten}
+use Rattle.ds_kernel.specs.Inner.Parts.{held}
+use Rattle.ds_station.specs.Inner.Station.{StationValue}
 use Rattle.ds_station.proofs.Runs.{does_keep, sound_few, stands_still}
 use Rattle.ds_station.proofs.station.Station.step.Goals as goal
 

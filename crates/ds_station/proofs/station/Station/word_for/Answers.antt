@@ -1,7 +1,7 @@
 use Rattle.std.proofs.Common.{◌≡◌, ℕ, ◌+◌, ◌*◌, Some, sym, ap, subst, ◌∙◌}
 use Rattle.ds_isa.specs.declared.instr.Size.TheVariants.{Word}
 use Rattle.ds_policy.specs.Pages.{Table, decide}
-use Rattle.ds_station.specs.Station.{StationValue}
+use Rattle.ds_station.specs.Inner.Station.{StationValue}
 use Rattle.ds_station.specs.Reads.{memory_held, word_for}
 use Rattle.ds_kernel.proofs.Fetching.{fetched_low}
 use Rattle.ds_station.proofs.Reading.{word_found}

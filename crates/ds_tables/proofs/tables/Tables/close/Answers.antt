@@ -1,6 +1,7 @@
 use Rattle.std.proofs.Common.{◌≡◌, ◌<◌, ◌∙◌, length, map, ap, sym, arith}
 use Rattle.std.specs.Prelude.{slice_set, ◌-◌}
-use Rattle.ds_tables.specs.Places.{Places, places_of, freed, closed}
+use Rattle.ds_tables.specs.Places.{Places, places_of}
+use Rattle.ds_tables.specs.Inner.Places.{freed, closed}
 use Rattle.ds_tables.specs.Tables.{entry_word}
 use Rattle.ds_tables.proofs.PlaceLemmas.{four_exactly, closed_row, closed_short}
 use Rattle.ds_tables.proofs.Map.{closed_words}

@@ -1,5 +1,5 @@
 use Rattle.std.proofs.Common.{◌≡◌}
-use Rattle.ds_tlb.specs.Entries.{passed}
+use Rattle.ds_tlb.specs.Inner.Entries.{passed}
 use Rattle.ds_tlb.proofs.lookaside.Lookaside.pass.Given as goal
 
 abbrev pub invariant-loop : goal.invariant-loop

@@ -1,5 +1,5 @@
 use Rattle.std.proofs.Common.{refl, arith}
-use Rattle.ds_policy.specs.KeyLines.{characters_from, AreKeyLines}
+use Rattle.ds_policy.specs.Inner.KeyLines.{characters_from, AreKeyLines}
 use Rattle.ds_policy.proofs.events.characters.Characters.new.Goals as goal
 
 pub invariant_of-result : goal.invariant_of-result

@@ -1,0 +1,3 @@
+-- Worked rows: theorems whose two sides compute to one value, with what they are made of.
+pub mod BegunRows
+pub mod EndingRows

@@ -1,0 +1,4 @@
+-- What code and proofs share, and no promise speaks of.
+pub mod Lines
+pub mod Spots
+pub mod Starts

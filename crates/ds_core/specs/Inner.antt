@@ -1,0 +1,4 @@
+-- What code and proofs share, and no promise speaks of.
+pub mod Access
+pub mod Coprocessor
+pub mod Core

@@ -1,0 +1,7 @@
+-- What standard error is told: of a failure, of a fault of a source, and of a check that is refused.
+use Rattle.ds_source_reasons.specs.declared.fault.FaultyLines.{FaultyLines}
+use Rattle.ds_drive.specs.Told.{Passed}
+
+-- the same of the code's lines
+abbrev pub passed_in : FaultyLines → Passed
+passed_in l = record { lines = l.passed; rest = l.rest.now }

@@ -1,0 +1,5 @@
+-- What code and proofs share, and no promise speaks of.
+pub mod Does
+pub mod Page
+pub mod Places
+pub mod Turn

@@ -1,0 +1,4 @@
+-- What code and proofs share, and no promise speaks of.
+pub mod Handler
+pub mod Refill
+pub mod Refills

@@ -1,0 +1,20 @@
+-- What code and proofs share, and no promise speaks of.
+pub mod Asks
+pub mod Blocks
+pub mod Counts
+pub mod Course
+pub mod CourseSteps
+pub mod Ends
+pub mod Granted
+pub mod Handling
+pub mod Held
+pub mod Leaves
+pub mod Quiet
+pub mod Real
+pub mod Runs
+pub mod Services
+pub mod Stands
+pub mod Steps
+pub mod Tally
+pub mod Told
+pub mod Written
