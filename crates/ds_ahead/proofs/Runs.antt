@@ -6,9 +6,9 @@ use Rattle.ds_word.proofs.Bytes.{word_at-with_word_apart}
 use Rattle.ds_isa.specs.declared.instr.Late.{Late}
 use Rattle.ds_isa.specs.Instruction.{instruction_of}
 use Rattle.ds_cp0.specs.System.{is_pending}
-use Rattle.ds_operations.specs.declared.operation.Operation.{Operation}
-use Rattle.ds_operations.specs.declared.operation.OperationKind.TheVariants.{Other}
-use Rattle.ds_operations.specs.Inner.Does.{does, MeansAs}
+use Rattle.ds_pages.specs.declared.operation.Operation.{Operation}
+use Rattle.ds_pages.specs.declared.operation.OperationKind.TheVariants.{Other}
+use Rattle.ds_pages.specs.Inner.Operations.{does, MeansAs}
 use Rattle.ds_pages.specs.declared.does.Does.{Does}
 use Rattle.ds_pages.specs.Inner.Does.{single}
 use Rattle.ds_pages.specs.Inner.Places.{Fields, fields_of, fields_at}

@@ -8,9 +8,9 @@ use Rattle.ds_cp0.specs.System.{System, asid_of, is_pending}
 use Rattle.ds_tlb.specs.declared.entry.Entry.{Entry}
 use Rattle.ds_tlb.specs.Inner.Frames.{base_of}
 use Rattle.ds_isa.specs.Meaning.{Effect, meaning}
-use Rattle.ds_operations.specs.declared.operation.Operation.{Operation}
-use Rattle.ds_operations.specs.declared.operation.OperationKind.TheVariants.{Other}
-use Rattle.ds_operations.specs.Inner.Does.{does}
+use Rattle.ds_pages.specs.declared.operation.Operation.{Operation}
+use Rattle.ds_pages.specs.declared.operation.OperationKind.TheVariants.{Other}
+use Rattle.ds_pages.specs.Inner.Operations.{does}
 use Rattle.ds_dev.specs.Bus.{BusState, lines}
 use Rattle.ds_core.specs.declared.event.Event.{Event}
 use Rattle.ds_ahead.specs.declared.operations.Outcome.{Outcome}

@@ -8,8 +8,8 @@ use Rattle.ds_pages.specs.declared.does.Does.{Does}
 use Rattle.ds_pages.specs.declared.places.Places.{Places}
 use Rattle.ds_pages.specs.declared.does.Does.TheVariants as does
 use Rattle.ds_pages.specs.Inner.Does.{single, steps, is_known, is_end, has_slot, is_load}
-use Rattle.ds_operations.specs.declared.operation.OperationKind.{OperationKind}
-use Rattle.ds_operations.specs.declared.operation.OperationKind.TheVariants.{Other}
+use Rattle.ds_pages.specs.declared.operation.OperationKind.{OperationKind}
+use Rattle.ds_pages.specs.declared.operation.OperationKind.TheVariants.{Other}
 use Rattle.ds_pages.specs.Inner.Places.{fields_at, does_at, length_at, IsFreeAt}
 use Rattle.ds_dev.specs.Bus.{BusState}
 use Rattle.ds_core.specs.declared.event.Event.{Event}

@@ -3,7 +3,7 @@ ghost use Rattle.std.specs.Prelude.{◌≡◌, ◌≢◌, ◌+◌, ◌*◌, ◌<
 ghost use Rattle.ds_isa.specs.Registers.{read, settled};
 ghost use Rattle.ds_isa.specs.Meaning.{Branches};
 ghost use Rattle.ds_cp0.specs.System.{is_pending};
-ghost use Rattle.ds_operations.specs.Inner.Does.{does, branches_by, target_by};
+ghost use Rattle.ds_pages.specs.Inner.Operations.{does, branches_by, target_by};
 ghost use Rattle.ds_dev.specs.Bus.{lines};
 ghost use Rattle.ds_pages.specs.Inner.Does.{single, is_branch};
 ghost use Rattle.ds_pages.specs.Inner.Places.{does_at, fields_at};
@@ -20,8 +20,7 @@ use crate::operations::general;
 use crate::position::Position;
 use ds_core::{Core, is_at_most_zero};
 use ds_dev::Bus;
-use ds_operations::{Operation, OperationKind};
-use ds_pages::Page;
+use ds_pages::{Operation, OperationKind, Page};
 use ds_tlb::Lookaside;
 use ds_word::is_negative;
 

@@ -1,8 +1,8 @@
 //! Operations whose kind is known where code is compiled, so that it is the code of that kind alone.
 ghost use Rattle.std.specs.Prelude.{◌≡◌, slice_index};
 ghost use Rattle.ds_isa.specs.Registers.{read};
-ghost use Rattle.ds_operations.specs.declared.operation.OperationKind.TheVariants as kinds;
-ghost use Rattle.ds_operations.specs.Inner.Does.{does};
+ghost use Rattle.ds_pages.specs.declared.operation.OperationKind.TheVariants as kinds;
+ghost use Rattle.ds_pages.specs.Inner.Operations.{does};
 ghost use Rattle.ds_pages.specs.Inner.Does.{single};
 ghost use Rattle.ds_cp0.specs.System.{asid_of};
 ghost use Rattle.ds_ahead.specs.Inner.Placed.{registers_at};
@@ -17,13 +17,13 @@ use crate::operations::{
 use crate::position::Position;
 use ds_core::{Core, places};
 use ds_dev::Bus;
-use ds_operations::{Operation, OperationKind};
+use ds_pages::{Operation, OperationKind};
 use ds_tlb::Lookaside;
 use ds_word::{shift_left, shift_right_logical, wrapping_sum};
 
 /// Executes operations of one kind.
 pub(crate) trait Execute: Copy {
-    ghost use Rattle.ds_operations.specs.declared.operation.OperationKind.{OperationKind};
+    ghost use Rattle.ds_pages.specs.declared.operation.OperationKind.{OperationKind};
 
     ghost kind: { Self → OperationKind };
 

@@ -1,7 +1,7 @@
 //! What each kind of operation does.
 ghost use Rattle.std.specs.Prelude.{◌≡◌, slice_index};
 ghost use Rattle.ds_isa.specs.Registers.{read};
-ghost use Rattle.ds_operations.specs.Inner.Does.{does};
+ghost use Rattle.ds_pages.specs.Inner.Operations.{does};
 ghost use Rattle.ds_pages.specs.Inner.Does.{single};
 ghost use Rattle.ds_cp0.specs.System.{asid_of};
 ghost use Rattle.ds_ahead.specs.Inner.Placed.{registers_at};
@@ -16,7 +16,7 @@ use crate::operations::{
 use crate::position::Position;
 use ds_core::{Core, is_at_most_zero, places};
 use ds_dev::Bus;
-use ds_operations::{Operation, OperationKind};
+use ds_pages::{Operation, OperationKind};
 use ds_tlb::Lookaside;
 use ds_word::{
     checked_difference, checked_sum, div_signed, div_unsigned, is_negative, mul_signed,

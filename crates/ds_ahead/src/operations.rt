@@ -7,7 +7,7 @@ ghost use Rattle.ds_isa.specs.declared.instr.Kind.TheVariants.{Store};
 ghost use Rattle.ds_word.specs.Word.{word, bits, sign_extended};
 ghost use Rattle.ds_word.specs.Merge.{with_bits};
 ghost use Rattle.ds_word.specs.Bytes.{word_at, with_word};
-ghost use Rattle.ds_operations.specs.Inner.Does.{target_by, in_region};
+ghost use Rattle.ds_pages.specs.Inner.Operations.{target_by, in_region};
 ghost use Rattle.ds_dev.specs.Bus.{lines};
 ghost use Rattle.ds_dev.specs.Inner.Bus.{alignment};
 ghost use Rattle.ds_cp0.specs.System.{asid_of};
@@ -21,7 +21,7 @@ use ds_amap::{Kind, Physical, recalled_aligned};
 use ds_core::{Core, after_slot};
 use ds_dev::Bus;
 use ds_isa::{Late, Size};
-use ds_operations::{Register, Target};
+use ds_pages::{Register, Target};
 use ds_tlb::Lookaside;
 use ds_word::{PAGE_SIZE, sign16, wrapping_sum};
 

@@ -5,7 +5,7 @@ ghost use Rattle.ds_ahead.specs.Inner.Placed.{placed, at_next, at_slot, IsFree};
 use crate::operations::Outcome;
 use ds_core::Core;
 use ds_isa::Late;
-use ds_operations::Operation;
+use ds_pages::Operation;
 use ds_tlb::Lookaside;
 use ds_word::wrapping_sum;
 use std::marker::Model;

@@ -21,8 +21,7 @@ use crate::position::Position;
 use crate::turn::turn;
 use ds_core::Core;
 use ds_dev::Bus;
-use ds_operations::OperationKind;
-use ds_pages::{Does, Page};
+use ds_pages::{Does, OperationKind, Page};
 use ds_tlb::Lookaside;
 use ds_word::wrapping_difference;
 

@@ -19,7 +19,7 @@ use crate::operations::Outcome;
 use crate::position::{Position, position_of, settle};
 use ds_core::Core;
 use ds_dev::Bus;
-use ds_operations::Operation;
+use ds_pages::Operation;
 use ds_tlb::Lookaside;
 use ds_word::wrapping_sum;
 

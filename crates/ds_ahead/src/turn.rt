@@ -18,8 +18,7 @@ use crate::position::Position;
 use crate::run::{do_at, do_operation, through_any_slot, through_slot};
 use ds_core::Core;
 use ds_dev::Bus;
-use ds_operations::OperationKind;
-use ds_pages::{Page, Stride};
+use ds_pages::{OperationKind, Page, Stride};
 use ds_tlb::Lookaside;
 
 /// The kind of the operation that is done alone in a turn.

@@ -3,7 +3,7 @@ ghost use Rattle.std.specs.Prelude.{◌≡◌, ◌+◌, ◌*◌, ◌%◌, ◌^�
 ghost use Rattle.std.specs.Borrow.{sem};
 ghost use Rattle.ds_isa.specs.Instruction.{instruction_of};
 ghost use Rattle.ds_isa.specs.declared.instr.Size.TheVariants.{Word};
-ghost use Rattle.ds_operations.specs.Inner.Does.{MeansAs};
+ghost use Rattle.ds_pages.specs.Inner.Operations.{MeansAs};
 ghost use Rattle.ds_word.specs.Word.{bits};
 ghost use Rattle.ds_word.specs.Merge.{with_bits};
 ghost use Rattle.ds_word.specs.Bytes.{word_at, with_word};
@@ -24,8 +24,7 @@ use crate::serial::{self, SerialLines};
 use crate::system::{self, SystemRegister};
 use ds_isa::{Instr, Size};
 use ds_mem::{FRAME_SIZE, Memory, SIZE};
-use ds_operations::Operation;
-use ds_pages::Page;
+use ds_pages::{Operation, Page};
 use std::marker::Model;
 
 /// The bus, which contracts see as the record of its memory and its devices.

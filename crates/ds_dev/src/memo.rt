@@ -1,10 +1,10 @@
 //! Words that were decoded before.
 ghost use Rattle.std.specs.Prelude.{◌≡◌, ◌<◌, slice_get, IfSome};
 ghost use Rattle.ds_isa.specs.Instruction.{instruction_of};
-ghost use Rattle.ds_operations.specs.Inner.Does.{MeansAs};
+ghost use Rattle.ds_pages.specs.Inner.Operations.{MeansAs};
 
 use ds_isa::{Instr, decode};
-use ds_operations::Operation;
+use ds_pages::Operation;
 
 /// The number of words of a page.
 pub(crate) const PAGE_WORDS: usize = 1024;

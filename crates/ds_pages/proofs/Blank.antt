@@ -1,7 +1,7 @@
 -- Places of which nothing is known.
 use Rattle.std.proofs.Common.{◌≡◌, ℕ, zero, suc, ◌≤◌, ◌+◌, true, replicate, refl, arith, ap, ◌∙◌, sym}
 use Rattle.std.specs.Prelude.{slice_get, slice_index}
-use Rattle.ds_operations.specs.declared.operation.OperationKind.TheVariants as kind
+use Rattle.ds_pages.specs.declared.operation.OperationKind.TheVariants as kind
 use Rattle.ds_pages.specs.declared.does.Does.{Does}
 use Rattle.ds_pages.specs.declared.does.Does.TheVariants as does
 use Rattle.ds_pages.specs.declared.turn.Stride.{Stride}

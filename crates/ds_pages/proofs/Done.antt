@@ -1,8 +1,8 @@
 -- What follows for whatever is done at a place.
 use Rattle.std.proofs.Common.{◌≡◌, ◌≢◌, ℕ, ◌+◌, ◌<◌, ◌≤◌, Bool, true, false, not, ◌&&◌, ◌||◌, refl, arith, ap, ◌∙◌, sym}
 use Rattle.std.specs.Prelude.{if◌then◌else◌}
-use Rattle.ds_operations.specs.declared.operation.OperationKind.{OperationKind}
-use Rattle.ds_operations.specs.declared.operation.OperationKind.TheVariants as kind
+use Rattle.ds_pages.specs.declared.operation.OperationKind.{OperationKind}
+use Rattle.ds_pages.specs.declared.operation.OperationKind.TheVariants as kind
 use Rattle.ds_pages.specs.declared.does.Does.{Does}
 use Rattle.ds_pages.specs.declared.does.Does.TheVariants as does
 use Rattle.ds_pages.specs.Inner.Does.{single, steps, is_known, is_end, is_branch, is_load, has_slot}

@@ -2,8 +2,8 @@
 use Rattle.std.proofs.Common.{◌≡◌, ◌≢◌, ℕ, ◌+◌, ◌*◌, ◌/◌, ◌%◌, ◌<◌, true, false, ◌&&◌, ◌||◌, nat_lt, arith, ap, ◌∙◌, sym}
 use Rattle.std.specs.Prelude.{◌==◌}
 use Rattle.std.proofs.lemmas.Grind.{common_steps}
-use Rattle.ds_operations.specs.declared.operation.OperationKind.{OperationKind}
-use Rattle.ds_operations.specs.declared.operation.OperationKind.TheVariants as kind
+use Rattle.ds_pages.specs.declared.operation.OperationKind.{OperationKind}
+use Rattle.ds_pages.specs.declared.operation.OperationKind.TheVariants as kind
 use Rattle.ds_pages.specs.declared.places.Places.{Places}
 use Rattle.ds_pages.specs.Inner.Does.{single, is_known, is_branch, is_load}
 use Rattle.ds_pages.specs.Inner.Places.{Fields, does_at, fields_at, target_at, stays, offset_of, FitsAt}

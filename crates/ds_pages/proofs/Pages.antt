@@ -5,9 +5,9 @@ use Rattle.std.proofs.lemmas.Bool.{cases_eq}
 use Rattle.std.proofs.lemmas.List.{get_or-set_other}
 use Rattle.ds_isa.specs.declared.instr.Instr.{Instr}
 use Rattle.ds_isa.specs.Instruction.{instruction_of}
-use Rattle.ds_operations.specs.declared.operation.Operation.{Operation}
-use Rattle.ds_operations.specs.Inner.Does.{MeansAs}
-use Rattle.ds_operations.specs.declared.operation.OperationKind.TheVariants as kind
+use Rattle.ds_pages.specs.declared.operation.Operation.{Operation}
+use Rattle.ds_pages.specs.Inner.Operations.{MeansAs}
+use Rattle.ds_pages.specs.declared.operation.OperationKind.TheVariants as kind
 use Rattle.ds_pages.specs.declared.places.Places.{Places}
 use Rattle.ds_pages.specs.Inner.Does.{has_slot}
 use Rattle.ds_pages.specs.Inner.Places.{Fields, fields_of, does_at, fields_at, known_at, FitsAt}

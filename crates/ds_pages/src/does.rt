@@ -2,7 +2,7 @@
 ghost use Rattle.std.specs.Prelude.{◌≡◌, ◌<◌};
 ghost use Rattle.ds_pages.specs.Inner.Does.{single, is_known, is_end, is_branch, is_jump, is_load, has_slot, steps};
 
-use ds_operations::OperationKind;
+use crate::operation::OperationKind;
 
 /// What is done at a place of a page: the operation of the kind of this name, or what ends a block.
 #[derive(Clone, Copy, Debug, PartialEq, Eq)]

@@ -1,18 +1,18 @@
 //! A page of code: its words, and what is known of each.
 ghost use Rattle.std.specs.Prelude.{◌≡◌, ◌≢◌, ℕ, ◌+◌, ◌*◌, ◌<◌, ◌≤◌, true, false, not, ◌&&◌, slice_set};
 ghost use Rattle.ds_isa.specs.Instruction.{instruction_of};
-ghost use Rattle.ds_operations.specs.Inner.Does.{MeansAs};
+ghost use Rattle.ds_pages.specs.Inner.Operations.{MeansAs};
 ghost use Rattle.ds_pages.specs.Inner.Does.{single, steps, is_known, is_branch, has_slot, is_load};
 ghost use Rattle.ds_pages.specs.Inner.Turn.{first_of, second_of};
 ghost use Rattle.ds_pages.specs.Inner.Places.{does_at, fields_at, length_at, target_at, done_at, offset_of, fields_of, IsFreeAt};
 ghost use Rattle.ds_pages.specs.Inner.Page.{word_at, knows};
 
 use crate::does::Does;
+use crate::operation::{Operation, OperationKind};
 use crate::place::{NOWHERE, Place};
 use crate::places::{PLACES, Places};
 use crate::turn::Stride;
 use ds_isa::decode;
-use ds_operations::{Operation, OperationKind};
 use std::marker::Model;
 
 /// The words of a page of memory, with what is known of each: its operation, what is done there,

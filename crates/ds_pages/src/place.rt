@@ -5,7 +5,8 @@ ghost use Rattle.ds_pages.specs.Inner.Does.{is_known};
 ghost use Rattle.ds_pages.specs.Inner.Places.{fields_in, fields_of};
 
 use crate::does::Does;
-use ds_operations::{Operation, Register, Target};
+use crate::operation::Operation;
+use crate::register::{Register, Target};
 
 /// A place of a page: what is done there, beside what its operation has but for its kind. It is
 /// eight bytes, which a run loads one by one.

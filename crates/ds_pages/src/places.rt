@@ -5,9 +5,9 @@ ghost use Rattle.ds_pages.specs.Inner.Turn.{first_of, second_of};
 ghost use Rattle.ds_pages.specs.Inner.Places.{does_at, turn_at, fields_at, fields_in, fields_of, length_at, target_at, done_at, is_left, stays, offset_of, known_at, FitsAt, SameAt};
 
 use crate::does::Does;
+use crate::operation::{Operation, OperationKind};
 use crate::place::{NOWHERE, Place};
 use crate::turn::Stride;
-use ds_operations::{Operation, OperationKind};
 use ds_word::wrapping_sum;
 
 /// The number of places of a page.

@@ -2,7 +2,7 @@
 
 use ds_cp0::ExceptionCode;
 use ds_isa::Instr;
-use ds_operations::OperationKind;
+use ds_pages::OperationKind;
 use std::fmt;
 
 /// The most words of an answer.

@@ -3,8 +3,8 @@ use Rattle.std.specs.Prelude.{◌≡◌, ℕ, suc, ◌+◌, ◌<◌, ◌^◌, No
 use Rattle.ds_isa.specs.declared.instr.Instr.{Instr}
 use Rattle.ds_isa.specs.Meaning.{Effect, Calls}
 use Rattle.ds_cp0.specs.declared.exception.ExceptionCode.TheVariants.{SystemCall}
-use Rattle.ds_operations.specs.declared.operation.Operation.{Operation}
-use Rattle.ds_operations.specs.Inner.Does.{MeansAs}
+use Rattle.ds_pages.specs.declared.operation.Operation.{Operation}
+use Rattle.ds_pages.specs.Inner.Operations.{MeansAs}
 use Rattle.ds_dev.specs.Bus.{BusState, lines}
 use Rattle.ds_core.specs.declared.event.Event.{Event}
 use Rattle.ds_core.specs.declared.event.Event.TheVariants as event

@@ -3,8 +3,8 @@ use Rattle.std.specs.Prelude.{◌≡◌, ◌≢◌, ℕ, ◌+◌, ◌-◌, ◌*�
 use Rattle.ds_word.specs.Word.{word}
 use Rattle.ds_isa.specs.declared.instr.Late.{Late}
 use Rattle.ds_pages.specs.declared.places.Places.{Places}
-use Rattle.ds_operations.specs.declared.operation.OperationKind.{OperationKind}
-use Rattle.ds_operations.specs.declared.operation.OperationKind.TheVariants as kind
+use Rattle.ds_pages.specs.declared.operation.OperationKind.{OperationKind}
+use Rattle.ds_pages.specs.declared.operation.OperationKind.TheVariants as kind
 use Rattle.ds_pages.specs.declared.does.Does.{Does}
 use Rattle.ds_pages.specs.Inner.Does.{single, is_known}
 use Rattle.ds_pages.specs.Inner.Places.{does_at, fields_at, length_at}

@@ -5,8 +5,8 @@ use Rattle.ds_isa.specs.declared.instr.Instr.{Instr}
 use Rattle.ds_isa.specs.Registers.{Registers}
 use Rattle.ds_isa.specs.Meaning.{meaning}
 use Rattle.ds_isa.specs.Instruction.{instruction_of}
-use Rattle.ds_operations.specs.declared.operation.OperationKind.TheVariants as kind
-use Rattle.ds_operations.specs.Inner.Does.{does_by}
+use Rattle.ds_pages.specs.declared.operation.OperationKind.TheVariants as kind
+use Rattle.ds_pages.specs.Inner.Operations.{does_by}
 use Rattle.ds_pages.specs.declared.places.Places.{Places}
 use Rattle.ds_pages.specs.Inner.Places.{Fields, fields_at, known_at, FitsAt}
 

@@ -1,7 +1,7 @@
 -- Worked rows, by computation.
 use Rattle.std.specs.Prelude.{◌≡◌, ℕ, [], ◌∷◌, false, true, refl}
-use Rattle.ds_operations.specs.declared.operation.OperationKind.{OperationKind}
-use Rattle.ds_operations.specs.declared.operation.OperationKind.TheVariants as kind
+use Rattle.ds_pages.specs.declared.operation.OperationKind.{OperationKind}
+use Rattle.ds_pages.specs.declared.operation.OperationKind.TheVariants as kind
 use Rattle.ds_pages.specs.declared.does.Does.TheVariants as does
 use Rattle.ds_pages.specs.Inner.Does.{steps}
 use Rattle.ds_pages.specs.Inner.Places.{Fields, offset_of, stays, done_by}

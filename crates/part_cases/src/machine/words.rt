@@ -5,7 +5,7 @@ ghost use Rattle.ds_isa.specs.Instruction.{instruction_of};
 use crate::numbers::Numbers;
 use crate::told::{Answer, Token, number_or};
 use ds_isa::{Instr, decode, encode, is_branch, links, reads, writes};
-use ds_operations::Operation;
+use ds_pages::Operation;
 
 /// What is asked about words.
 #[derive(Clone, Copy)]

@@ -1,7 +1,7 @@
 use Rattle.std.proofs.Common.{◌≡◌, ℕ, ◌+◌, ◌*◌, ◌∙◌, sym, ap, subst, arith}
 use Rattle.ds_isa.specs.Registers.{settled}
 use Rattle.ds_isa.specs.Meaning.{Effect, Branches}
-use Rattle.ds_operations.specs.Inner.Does.{does, target_by}
+use Rattle.ds_pages.specs.Inner.Operations.{does, target_by}
 use Rattle.ds_pages.specs.Inner.Places.{Fields}
 use Rattle.ds_ahead.specs.declared.operations.Outcome.TheVariants.{Branched}
 use Rattle.ds_ahead.specs.Inner.Placed.{Place, registers_at}

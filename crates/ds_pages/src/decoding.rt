@@ -2,8 +2,8 @@
 ghost use Rattle.std.specs.Prelude.{◌≡◌, ◌≢◌, ℕ, ◌+◌, ◌*◌};
 ghost use Rattle.ds_word.specs.Word.{word, sign_extended};
 ghost use Rattle.ds_isa.specs.Registers.{Registers};
-ghost use Rattle.ds_operations.specs.declared.operation.OperationKind.TheVariants.{Other};
-ghost use Rattle.ds_operations.specs.Inner.Does.{does, does_by, MeansAs};
+ghost use Rattle.ds_pages.specs.declared.operation.OperationKind.TheVariants.{Other};
+ghost use Rattle.ds_pages.specs.Inner.Operations.{does, does_by, MeansAs};
 
 use crate::operation::{Operation, OperationKind};
 use crate::register::{Register, Target};

@@ -8,9 +8,9 @@ use Rattle.ds_isa.specs.declared.instr.Size.TheVariants as size
 use Rattle.ds_isa.specs.declared.instr.Instr.{Instr}
 use Rattle.ds_isa.specs.Registers.{Registers, read, settled, written}
 use Rattle.ds_isa.specs.Meaning.{Effect, Goes, Branches, Faults, Calls, meaning, written_or_trap, with_hi_lo, past_slot, loads, stores}
-use Rattle.ds_operations.specs.declared.operation.OperationKind.{OperationKind}
-use Rattle.ds_operations.specs.declared.operation.OperationKind.TheVariants as kind
-use Rattle.ds_operations.specs.declared.operation.Operation.{Operation}
+use Rattle.ds_pages.specs.declared.operation.OperationKind.{OperationKind}
+use Rattle.ds_pages.specs.declared.operation.OperationKind.TheVariants as kind
+use Rattle.ds_pages.specs.declared.operation.Operation.{Operation}
 
 -- the target of a taken branch at its distance, else the place after its slot
 abbrev pub target_by : Bool → ℕ → ℕ → ℕ

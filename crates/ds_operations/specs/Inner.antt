@@ -1,2 +1,0 @@
--- What code and proofs share, and no promise speaks of.
-pub mod Does
