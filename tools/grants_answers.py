@@ -4,6 +4,7 @@ import tomllib
 from grants_model import Entry, Grants
 from spaces_model import AddressSpaces, LateCopies
 
+SIZES = {"byte": 1, "half": 2, "word": 4, "part": 1}  # what an address is a multiple of
 FIRST_RANDOM, LAST_SLOT, FIRST_FREE_SLOT = 63, 63, 8
 
 
@@ -99,6 +100,19 @@ class Model(AddressSpaces, LateCopies, Grants):
     def tell_space(self, p):
         return str(self.numbers.get(p, "none"))
 
+    def tell_decide(self, p, kind, size, address):
+        """The page and the offset, or the rule and the code by which it is denied: the first case of docs/machine.md that holds."""
+        stores, entry = kind == "store", self.entry(p, address & ~0xfff)
+        if address % SIZES[size]:
+            return f"denied A {4 + stores}"
+        if address >= 2**31:
+            return f"denied K {4 + stores}"
+        if entry.right == "none":
+            return f"denied {entry.rule} {2 + stores}"
+        if stores and entry.right == "read":
+            return f"denied {entry.rule} 1"
+        return f"{entry.page} {address % 4096}"
+
     def tell_translation(self, p, address):
         slot = self.held(p, address)
         if slot is None:
@@ -107,10 +121,10 @@ class Model(AddressSpaces, LateCopies, Grants):
         return f"{'write' if may_write else 'read'} {frame}"
 
 
-WORDS = {  # how the words of a line are read: a number in (d)ecimal or he(x)adecimal digits, (r)ight, (g)ive, (b)y whom
+WORDS = {  # how the words of a line are read: a number in (d)ecimal or he(x)adecimal digits, (r)ight or other word, (g)ive, (b)y whom
     "start": "ddd", "grant": "dxdrgd", "give": "dxdxd", "take": "ddx", "drop": "dxb", "revoke": "dxd", "narrow": "dx",
     "end": "d", "split": "dx", "write": "dd", "enter": "dd", "fill": "dx", "entry": "dx", "addresses": "d", "byte": "d",
-    "frame": "d", "space": "d", "translation": "dx", "expire": "d", "next": "", "due": "dd"}
+    "frame": "d", "space": "d", "translation": "dx", "expire": "d", "next": "", "due": "dd", "decide": "drrx"}
 READ = {"d": int, "x": lambda word: int(word, 16), "r": str, "g": {"keep": False, "give": True}.get,
         "b": {"own": False, "command": True}.get}
 
@@ -120,7 +134,8 @@ def begun(words):
     policy = tomllib.loads(words.replace(" ", "\n"))
     model = Model(len(policy["process"]), policy["frames"], len(policy["page"]))
     for number, rule in enumerate(policy["rule"], 1):
-        entry = Entry(rule["right"], int(rule["page"].removeprefix("p")), number, rule["give"], until=rule.get("until"))
+        page = int(rule["page"].removeprefix("p")) if "page" in rule else None
+        entry = Entry(rule["right"], page, number, rule.get("give", False), until=rule.get("until"))
         model.table[rule["process"], rule["address"]] = entry
     return model
 

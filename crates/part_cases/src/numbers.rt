@@ -40,14 +40,36 @@ pub fn numbers_of(text: &str, in_hexadecimal: bool) -> Option<Numbers> {
     Some(numbers)
 }
 
-/// A number in hexadecimal digits, of which an address has eight, one in decimal digits, or one of two
-/// words: 0 for the first and 1 for the second of `read` and `write`, `keep` and `give`, `own` and
-/// `command`.
+/// Words that stand for numbers: of each kind the first is 0.
+static WORDS: [(&str, u32); 15] = [
+    ("read", 0),
+    ("write", 1),
+    ("keep", 0),
+    ("give", 1),
+    ("own", 0),
+    ("command", 1),
+    ("kernel", 0),
+    ("user", 1),
+    ("fetch", 0),
+    ("load", 1),
+    ("store", 2),
+    ("byte", 0),
+    ("half", 1),
+    ("word", 2),
+    ("part", 3),
+];
+
+/// A number in hexadecimal digits, of which an address has eight, one in decimal digits, or that of a
+/// word.
 fn number(word: &str, in_hexadecimal: bool) -> Option<u32> {
-    match word {
-        _ if in_hexadecimal || word.len() == 8 => u32::from_str_radix(word, 16).ok(),
-        "read" | "keep" | "own" => Some(0),
-        "write" | "give" | "command" => Some(1),
-        _ => word.parse::<u32>().ok(),
+    for (name, number) in &WORDS {
+        if *name == word {
+            return Some(*number);
+        }
+    }
+    if in_hexadecimal || word.len() == 8 {
+        u32::from_str_radix(word, 16).ok()
+    } else {
+        word.parse::<u32>().ok()
     }
 }

@@ -2,7 +2,7 @@
 ghost use Rattle.std.specs.Prelude.{◌≡◌};
 
 mod lockstep;
-mod machine;
+pub mod machine;
 mod program;
 mod random;
 

@@ -22,7 +22,7 @@ enum Buffer {
 }
 
 /// The files in the order in which they are run, each with the words after its name in what is told.
-static RUNS: [(Part, &str, Buffer, &str); 30] = [
+static RUNS: [(Part, &str, Buffer, &str); 38] = [
     (Part::Machine, "machine/arithmetic", Buffer::Indexed, ""),
     (Part::Machine, "machine/decoded", Buffer::Indexed, ""),
     (Part::Machine, "machine/registers", Buffer::Indexed, ""),
@@ -64,6 +64,54 @@ static RUNS: [(Part, &str, Buffer, &str); 30] = [
     (
         Part::Machine,
         "machine/entries",
+        Buffer::Indexed,
+        ", indexed buffer",
+    ),
+    (
+        Part::Machine,
+        "machine/buffer",
+        Buffer::Searched,
+        ", searched buffer",
+    ),
+    (
+        Part::Machine,
+        "machine/buffer",
+        Buffer::Indexed,
+        ", indexed buffer",
+    ),
+    (
+        Part::Machine,
+        "machine/map",
+        Buffer::Searched,
+        ", searched buffer",
+    ),
+    (
+        Part::Machine,
+        "machine/map",
+        Buffer::Indexed,
+        ", indexed buffer",
+    ),
+    (
+        Part::Machine,
+        "machine/handler",
+        Buffer::Searched,
+        ", searched buffer",
+    ),
+    (
+        Part::Machine,
+        "machine/handler",
+        Buffer::Indexed,
+        ", indexed buffer",
+    ),
+    (
+        Part::Machine,
+        "machine/spaces",
+        Buffer::Searched,
+        ", searched buffer",
+    ),
+    (
+        Part::Machine,
+        "machine/spaces",
         Buffer::Indexed,
         ", indexed buffer",
     ),
@@ -193,7 +241,7 @@ fn is_case(asked: Option<&Asked<'_>>) -> bool {
     match asked {
         Some(asked) => !matches!(
             asked.verb,
-            Verb::New | Verb::Start | Verb::Begin | Verb::Step(_)
+            Verb::New | Verb::Paged | Verb::Start | Verb::Begin | Verb::Step(_)
         ),
         None => true,
     }

@@ -3,52 +3,50 @@ ghost use Rattle.std.specs.Prelude.{◌≡◌};
 
 use crate::grants::answers::{answer, begun, called};
 use crate::grants::replay::Replay;
-use crate::machine::{arithmetic, bus, memory, programs, system, words};
+use crate::machine::{arithmetic, buffer, bus, memory, programs, spaces, state, system, words};
 use crate::numbers::Numbers;
+use crate::programs::machine::Machine;
 use crate::told::Answer;
 use crate::verbs::{Asked, Verb};
-use ds_cp0::Cp0;
-use ds_dev::Bus;
-use ds_mem::Memory;
+use ds_asid::Asids;
 use ds_tables::Tables;
 use ds_tlb::Lookaside;
 use std::alloc::Global;
 
-/// The parts of a machine.
+/// A machine with page tables and the numbers of address spaces.
 #[derive(Drop)]
-pub struct Machine {
-    bus: Bus,
-    cp0: Cp0,
+struct WithTables<L: Lookaside> {
+    machine: Machine<L>,
     tables: Tables,
+    spaces: Asids,
 }
 
 /// A machine, and grants with a buffer.
 #[derive(Drop)]
-pub struct Stage<L> {
-    machine: Machine,
+pub struct Stage<L: Lookaside> {
+    parts: WithTables<L>,
     replay: Replay<L>,
 }
 
-impl Machine {
-    /// One with nothing in memory, and page tables of two processes; none where there is no memory for it.
-    fn new(alloc: Global) -> Option<Machine> {
-        let memory = Memory::new(alloc).ok()?;
-        Some(Machine {
-            bus: Bus::new(memory),
-            cp0: Cp0::new(),
+impl<L: Lookaside> WithTables<L> {
+    /// One with a machine, page tables of two processes, and no number handed out; none where there is no machine.
+    fn of(machine: Option<Machine<L>>) -> Option<WithTables<L>> {
+        Some(WithTables {
+            machine: machine?,
             tables: Tables::new(2),
+            spaces: Asids::new(),
         })
     }
 
     /// Begins with a new one.
-    fn restart(&mut self, alloc: Global) -> Option<Answer> {
-        *self = Machine::new(alloc)?;
+    fn restart(&mut self, begun: Option<WithTables<L>>) -> Option<Answer> {
+        *self = begun?;
         Some(Answer::said("ok"))
     }
 
     /// What the memory or its page tables answer to a step.
     fn of_memory(&mut self, step: memory::Step, numbers: &Numbers) -> Option<Answer> {
-        let memory = self.bus.memory();
+        let memory = self.machine.bus.memory();
         let number = memory::answer(memory, &mut self.tables, step, numbers)?;
         Some(Answer::hex(number))
     }
@@ -60,9 +58,9 @@ impl<L: Lookaside> Stage<L> {
         requires slots { L.SLOTS ≡ 64 }
         requires wired { L.WIRED ≡ 8 }
     {
-        let machine = Machine::new(alloc)?;
+        let parts = WithTables::of(Machine::pageless(alloc))?;
         let replay = Replay::new(alloc, 0, 0, 0)?;
-        Some(Stage { machine, replay })
+        Some(Stage { parts, replay })
     }
 
     /// What comes of what is asked; none where nothing is, where it can't be done, or where there is no memory
@@ -72,18 +70,39 @@ impl<L: Lookaside> Stage<L> {
         requires wired { L.WIRED ≡ 8 }
     {
         let asked = asked?;
-        let (machine, replay) = (&mut self.machine, &mut self.replay);
+        let (parts, replay) = (&mut self.parts, &mut self.replay);
         let numbers = &asked.numbers;
         match asked.verb {
-            Verb::New => machine.restart(alloc),
+            Verb::New => parts.restart(WithTables::of(Machine::pageless(alloc))),
+            Verb::Paged => parts.restart(WithTables::of(Machine::blank(alloc))),
+            Verb::Memory(step) => parts.of_memory(step, numbers),
+            Verb::Space(step) => {
+                let buffer = &mut parts.machine.core.tlb;
+                spaces::answer(&mut parts.spaces, buffer, step, numbers)
+            }
             Verb::Arithmetic(function) => arithmetic::answer(function, numbers),
             Verb::Words(question) => words::answer(question, numbers),
-            Verb::Program(question) => programs::answer::<L>(question, &mut machine.bus, numbers),
-            Verb::System(step) => system::answer(&mut machine.cp0, step, numbers),
-            Verb::Bus(step) => bus::answer(&mut machine.bus, step, numbers),
-            Verb::Memory(step) => machine.of_memory(step, numbers),
+            Verb::Program(_) | Verb::System(_) | Verb::Bus(_) | Verb::Buffer(_) | Verb::State(_) =>
+                { of_machine(&mut parts.machine, asked) }
             _ => of_grants(alloc, replay, asked),
         }
+    }
+}
+
+/// The same, where it is asked of the machine.
+fn of_machine<L: Lookaside>(machine: &mut Machine<L>, asked: &Asked<'_>) -> Option<Answer>
+    requires slots { L.SLOTS ≡ 64 }
+    requires wired { L.WIRED ≡ 8 }
+{
+    let (core, bus) = (&mut machine.core, &mut machine.bus);
+    let numbers = &asked.numbers;
+    match asked.verb {
+        Verb::Program(question) => programs::answer::<L>(question, bus, numbers),
+        Verb::System(step) => system::answer(&mut core.cp0, step, numbers),
+        Verb::Bus(step) => bus::answer(bus, step, numbers),
+        Verb::Buffer(step) => buffer::answer(&mut core.tlb, step, numbers),
+        Verb::State(step) => state::answer(core, bus, step, numbers),
+        _ => None,
     }
 }
 

@@ -74,6 +74,15 @@ impl Answer {
         Answer::of(&[Token::Hex(number)])
     }
 
+    /// This answer, or a word where it has none.
+    pub fn or(self, word: &'static str) -> Answer {
+        if self.count == 0 {
+            Answer::said(word)
+        } else {
+            self
+        }
+    }
+
     /// Adds words, as far as there is room.
     pub fn push(&mut self, tokens: &[Token]) {
         for token in tokens {

@@ -2,7 +2,7 @@
 
 use crate::grants::verbs::{Call, Step};
 use crate::machine::arithmetic::Function;
-use crate::machine::{bus, memory, programs, system, words};
+use crate::machine::{buffer, bus, memory, programs, spaces, state, system, words};
 use crate::numbers::Numbers;
 
 /// What a line asks for by its first word.
@@ -10,12 +10,17 @@ use crate::numbers::Numbers;
 pub enum Verb {
     /// A new machine.
     New,
+    /// A new machine that keeps pages of known operations.
+    Paged,
     Arithmetic(Function),
     Words(words::Question),
     Program(programs::Question),
     System(system::Step),
     Bus(bus::Step),
     Memory(memory::Step),
+    Buffer(buffer::Step),
+    State(state::Step),
+    Space(spaces::Step),
     /// New grants, with no entries.
     Start,
     /// New grants, with the entries of a policy.

@@ -10,9 +10,15 @@ use crate::numbers::Numbers;
 use crate::told::{Answer, Token, number_or};
 use ds_grants::GrantFault;
 use ds_isa::{Kind, Size};
-use ds_policy::{Entry, EntryPlace, Grant, Right};
+use ds_policy::{Access, Entry, EntryPlace, Grant, Right, Rule, Verdict};
 use ds_tlb::Lookaside;
 use std::alloc::Global;
+
+/// The kinds of accesses, each at its number.
+static KINDS: [Kind; 3] = [Kind::Fetch, Kind::Load, Kind::Store];
+
+/// The sizes of accesses, each at its number.
+static SIZES: [Size; 4] = [Size::Byte, Size::Half, Size::Word, Size::Part];
 
 /// Goes on with new grants, if there are any.
 pub fn begun<L: Lookaside>(replay: &mut Replay<L>, begun: Option<Replay<L>>) -> Option<Answer> {
@@ -35,6 +41,7 @@ pub fn answer<L: Lookaside>(replay: &mut Replay<L>, step: Step, numbers: &Number
         }
         Step::Translation => Some(translation(replay, a, b)),
         Step::Entry => Some(told_entry(replay.entry(a, b))),
+        Step::Decide => decided(replay, numbers),
         _ => shown(replay, step, a, b),
     }
 }
@@ -56,6 +63,35 @@ fn shown<L: Lookaside>(replay: &Replay<L>, step: Step, a: u32, b: u32) -> Option
         _ => return None,
     };
     Some(Answer::of(&[token]))
+}
+
+/// What the table decides about an access.
+fn decided<L: Lookaside>(replay: &Replay<L>, numbers: &Numbers) -> Option<Answer> {
+    let [process, kind, size, address, ..] = numbers.all;
+    let kind = *KINDS.get(kind as usize)?;
+    let size = *SIZES.get(size as usize)?;
+    if !replay.is_within(process) {
+        return None;
+    }
+    let table = replay.grants.table();
+    Some(told_verdict(table.decide(process, Access { kind, size }, address)))
+}
+
+/// A verdict: the page and the offset, or the rule and the code of the denial.
+fn told_verdict(verdict: Verdict) -> Answer {
+    let (rule, code) = match verdict {
+        Verdict::Allowed { page, offset } => {
+            return Answer::of(&[Token::Number(page), Token::Number(offset)]);
+        }
+        Verdict::Denied { rule, code } => (rule, code),
+    };
+    let rule = match rule {
+        Rule::Number(number) => Token::Number(number),
+        Rule::A => Token::Word("A"),
+        Rule::K => Token::Word("K"),
+        Rule::I => Token::Word("I"),
+    };
+    Answer::of(&[Token::Word("denied"), rule, Token::Number(code)])
 }
 
 /// What comes of a call.

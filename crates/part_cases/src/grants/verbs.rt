@@ -30,6 +30,7 @@ pub enum Step {
     Translation,
     Next,
     Due,
+    Decide,
 }
 
 /// The words, and how many numbers stand after each. Beside calls these are
@@ -48,6 +49,8 @@ pub enum Step {
 ///     translation PROCESS ADDRESS     what the buffer answers it
 ///     next                            when the first of all rights ends
 ///     due PROCESS TIME                its first entry whose right has ended by then
+///     decide PROCESS fetch|load|store byte|half|word|part ADDRESS
+///                                     the page and offset of an access, or the rule and code of its denial
 ///
 /// and the calls
 ///
@@ -60,7 +63,7 @@ pub enum Step {
 ///     end PROCESS
 ///     split PROCESS ADDRESS
 ///     expire TIME
-pub static GRANTS: [Row; 22] = [
+pub static GRANTS: [Row; 23] = [
     ("start", 3, 3, Verb::Start),
     ("begin", 0, 0, Verb::Begin),
     ("write", 2, 2, Verb::Step(Step::Write)),
@@ -74,6 +77,7 @@ pub static GRANTS: [Row; 22] = [
     ("translation", 2, 2, Verb::Step(Step::Translation)),
     ("next", 0, 0, Verb::Step(Step::Next)),
     ("due", 2, 2, Verb::Step(Step::Due)),
+    ("decide", 4, 4, Verb::Step(Step::Decide)),
     ("grant", 6, 6, Verb::Call(Call::Grant)),
     ("give", 5, 5, Verb::Call(Call::Give)),
     ("take", 3, 3, Verb::Call(Call::Take)),

@@ -1,6 +1,9 @@
 //! Steps on the bus.
 ghost use Rattle.std.specs.Prelude.{◌≤◌};
 
+use crate::machine::clock::rings;
+use crate::machine::pages;
+use crate::machine::places::places;
 use crate::numbers::Numbers;
 use crate::told::{Answer, Token};
 use ds_dev::Bus;
@@ -13,12 +16,17 @@ pub enum Step {
     Lines,
     Receive,
     Tick,
+    Rings,
+    Places,
+    Enable,
+    Transmit,
     Access(Size),
+    Page(pages::Step),
 }
 
 /// What the bus answers to a step; none where it has no such operands.
 pub fn answer(bus: &mut Bus, step: Step, numbers: &Numbers) -> Option<Answer> {
-    let (a, b) = (numbers.all[0], numbers.all[1]);
+    let [a, b, c, ..] = numbers.all;
     match step {
         Step::Sent => Some(sent(bus)),
         Step::Lines => Some(Answer::said(lines(bus))),
@@ -30,7 +38,18 @@ pub fn answer(bus: &mut Bus, step: Step, numbers: &Numbers) -> Option<Answer> {
             tick(bus, a, b);
             Some(Answer::said("done"))
         }
+        Step::Rings if a == 1 || a == 2 => rings(bus, a, b, c),
+        Step::Places => places(bus, a, b),
+        Step::Enable => {
+            bus.set_enables(a);
+            Some(Answer::said("done"))
+        }
+        Step::Transmit => {
+            bus.transmit(a);
+            Some(Answer::said("done"))
+        }
         Step::Access(size) => access(bus, size, numbers),
+        Step::Page(step) => pages::answer(bus, step, a, b),
         _ => None,
     }
 }

@@ -2,6 +2,7 @@
 
 use crate::numbers::Numbers;
 use ds_mem::{FRAME_SIZE, FRAMES, Memory, SIZE};
+use ds_refill::install;
 use ds_tables::{Tables, pte_address};
 
 /// What a frame is told to be filled with where its bytes differ.
@@ -12,6 +13,7 @@ const MIXED: u32 = 0x100;
 pub enum Step {
     Word,
     Put,
+    Install,
     Entry,
     Open,
     Close,
@@ -45,6 +47,10 @@ pub fn answer(
         Step::Word if a % 4 == 0 && (a as usize) < SIZE => Some(memory.word(a)),
         Step::Put if a % 4 == 0 && (a as usize) < SIZE => {
             memory.put_word(a, b);
+            Some(0)
+        }
+        Step::Install => {
+            install(memory);
             Some(0)
         }
         Step::Entry => Some(tables.entry(memory, a, b)),

@@ -55,8 +55,8 @@ fn nonzero(cp0: &Cp0) -> Answer {
     answer
 }
 
-/// Enters an exception of the instruction at 00400000: its cause, the coprocessor, 1 where it is in
-/// a slot, 1 where no entry matched, and the address that was refused, if there is one.
+/// Enters an exception: its cause, the coprocessor, 1 where it is in a slot, 1 where no entry matched, the address that
+/// was refused, if there is one, and that of the instruction, if it is not 00400000.
 fn enter(cp0: &mut Cp0, numbers: &Numbers) -> Option<Answer> {
     let (cause, unit) = (numbers.all[0] as usize, numbers.all[1]);
     if unit > 3 {
@@ -64,7 +64,7 @@ fn enter(cp0: &mut Cp0, numbers: &Numbers) -> Option<Answer> {
     }
     let vector = cp0.enter(Exception {
         code: *EXCEPTIONS.get(cause)?,
-        pc: 0x40_0000,
+        pc: numbers.given().get(5).copied().unwrap_or(0x40_0000),
         slot: numbers.all[2] == 1,
         unit: unit as u8,
         addr: numbers.given().get(4).copied(),

@@ -2,14 +2,15 @@
 
 use crate::machine::arithmetic::{Function, OfOne, OfPlace, ToOne, ToTwo};
 use crate::machine::memory::OfFrame;
-use crate::machine::{bus, memory, programs, system, words};
+use crate::machine::{buffer, bus, memory, pages, programs, spaces, state, system, words};
 use crate::numbers::MOST;
 use crate::verbs::{Row, Verb};
-use ds_isa::Size;
+use ds_isa::{Kind, Size};
 
 /// The words, and how many numbers stand after each.
-pub static MACHINE: [Row; 67] = [
+pub static MACHINE: [Row; 101] = [
     ("new", 0, 0, Verb::New),
+    ("paged", 0, 0, Verb::Paged),
     ("fields", 1, 1, Verb::Arithmetic(Function::Fields)),
     ("imm", 1, 1, Verb::Arithmetic(Function::OfOne(OfOne::Imm))),
     (
@@ -173,6 +174,7 @@ pub static MACHINE: [Row; 67] = [
     ("registers", 1, 1, Verb::Words(words::Question::Registers)),
     ("operation", 1, 1, Verb::Words(words::Question::Operation)),
     ("rowless", 1, MOST, Verb::Words(words::Question::Rowless)),
+    ("back", 7, 7, Verb::Words(words::Question::Back)),
     ("fault", 3, MOST, Verb::Program(programs::Question::Fault)),
     (
         "late",
@@ -184,7 +186,7 @@ pub static MACHINE: [Row; 67] = [
     ("read", 1, 1, Verb::System(system::Step::Read)),
     ("write", 2, 2, Verb::System(system::Step::Write)),
     ("rfe", 0, 0, Verb::System(system::Step::Rfe)),
-    ("enter", 4, 5, Verb::System(system::Step::Enter)),
+    ("enter", 4, 6, Verb::System(system::Step::Enter)),
     ("nonzero", 0, 0, Verb::System(system::Step::Nonzero)),
     (
         "address_space",
@@ -202,6 +204,103 @@ pub static MACHINE: [Row; 67] = [
     ("half", 1, 2, Verb::Bus(bus::Step::Access(Size::Half))),
     ("word", 1, 2, Verb::Bus(bus::Step::Access(Size::Word))),
     ("part", 1, 2, Verb::Bus(bus::Step::Access(Size::Part))),
+    ("rings", 3, 3, Verb::Bus(bus::Step::Rings)),
+    ("places", 2, 2, Verb::Bus(bus::Step::Places)),
+    ("enable", 1, 1, Verb::Bus(bus::Step::Enable)),
+    ("transmit", 1, 1, Verb::Bus(bus::Step::Transmit)),
+    ("take", 1, 1, Verb::Bus(bus::Step::Page(pages::Step::Take))),
+    (
+        "page_word",
+        2,
+        2,
+        Verb::Bus(bus::Step::Page(pages::Step::PageWord)),
+    ),
+    (
+        "bus_byte",
+        1,
+        1,
+        Verb::Bus(bus::Step::Page(pages::Step::Byte)),
+    ),
+    (
+        "bus_half",
+        1,
+        1,
+        Verb::Bus(bus::Step::Page(pages::Step::Half)),
+    ),
+    (
+        "bus_word",
+        1,
+        1,
+        Verb::Bus(bus::Step::Page(pages::Step::Word)),
+    ),
+    (
+        "bus_aligned_word",
+        1,
+        1,
+        Verb::Bus(bus::Step::Page(pages::Step::AlignedWord)),
+    ),
+    (
+        "put_byte",
+        2,
+        2,
+        Verb::Bus(bus::Step::Page(pages::Step::PutByte)),
+    ),
+    (
+        "put_half",
+        2,
+        2,
+        Verb::Bus(bus::Step::Page(pages::Step::PutHalf)),
+    ),
+    (
+        "put_word",
+        2,
+        2,
+        Verb::Bus(bus::Step::Page(pages::Step::PutWord)),
+    ),
+    (
+        "put_aligned_word",
+        2,
+        2,
+        Verb::Bus(bus::Step::Page(pages::Step::PutAlignedWord)),
+    ),
+    ("slot", 1, 3, Verb::Buffer(buffer::Step::Slot)),
+    ("probe", 1, 1, Verb::Buffer(buffer::Step::Probe)),
+    (
+        "write_random",
+        2,
+        2,
+        Verb::Buffer(buffer::Step::WriteRandom),
+    ),
+    ("random", 0, 0, Verb::Buffer(buffer::Step::Random)),
+    ("count", 1, 1, Verb::Buffer(buffer::Step::Count)),
+    (
+        "fetch",
+        3,
+        3,
+        Verb::Buffer(buffer::Step::Translate(Kind::Fetch)),
+    ),
+    (
+        "load",
+        3,
+        3,
+        Verb::Buffer(buffer::Step::Translate(Kind::Load)),
+    ),
+    (
+        "store",
+        3,
+        3,
+        Verb::Buffer(buffer::Step::Translate(Kind::Store)),
+    ),
+    ("general", 1, 2, Verb::State(state::Step::General)),
+    ("generals", 0, 1, Verb::State(state::Step::Generals)),
+    ("late_load", 0, 2, Verb::State(state::Step::LateLoad)),
+    ("stand", 0, 2, Verb::State(state::Step::Stand)),
+    ("steps", 1, 1, Verb::State(state::Step::Steps)),
+    ("phase", 1, 1, Verb::State(state::Step::Phase)),
+    ("space", 1, 1, Verb::Space(spaces::Step::Of)),
+    ("take_space", 1, 1, Verb::Space(spaces::Step::Take)),
+    ("give_up", 1, 1, Verb::Space(spaces::Step::GiveUp)),
+    ("install", 0, 0, Verb::Memory(memory::Step::Install)),
     ("word_at", 1, 1, Verb::Memory(memory::Step::Word)),
     ("put", 2, 2, Verb::Memory(memory::Step::Put)),
     ("entry", 2, 2, Verb::Memory(memory::Step::Entry)),

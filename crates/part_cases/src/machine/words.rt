@@ -18,6 +18,8 @@ pub enum Question {
     Operation,
     /// What words are that fit no row.
     Rowless,
+    /// How many words that are drawn are those of their instructions.
+    Back,
 }
 
 /// What is answered to a question about words.
@@ -29,6 +31,7 @@ pub fn answer(question: Question, numbers: &Numbers) -> Option<Answer> {
         Question::Registers => registers_of(word),
         Question::Operation => Answer::of(&[Token::Operation(Operation::of(decode(word)).kind)]),
         Question::Rowless => kind_of_all(words, told(kind_of(word))),
+        Question::Back => back(words)?,
     })
 }
 
@@ -41,6 +44,25 @@ fn told_instruction(word: u32) -> Answer {
         answer.push(&[Token::Word("as"), Token::Hex(again)]);
     }
     answer
+}
+
+/// How many of so many drawn words encoding gives back. Given are the number from which they are drawn, how many there
+/// are, how far each number is shifted right and then left, the bits that are set, what is added to these after so
+/// many words each, and that many.
+fn back(given: &[u32]) -> Option<Answer> {
+    let [first, count, right, left, bits, step, each] = given else {
+        return None;
+    };
+    if *right > 31 || *left > 31 || *each == 0 {
+        return None;
+    }
+    let (mut drawn, mut came) = (*first, 0u32);
+    for number in 0..*count {
+        drawn = drawn.wrapping_mul(1_664_525).wrapping_add(1_013_904_223);
+        let word = drawn >> *right << *left | bits.wrapping_add(step.wrapping_mul(number / *each));
+        came = came.saturating_add(u32::from(encode(&decode(word)) == word));
+    }
+    Some(Answer::hex(came))
 }
 
 /// The registers that an instruction reads in rs and in rt, what it writes, where it links, and

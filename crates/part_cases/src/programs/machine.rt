@@ -66,10 +66,25 @@ impl<L: Lookaside> Machine<L> {
     {
         let memory = Memory::new(alloc).ok()?;
         let pages = Pages::new(alloc).ok()?;
-        Some(Machine {
-            core: new_core([0; 32], 0, Cp0::new(), new_buffer()),
-            bus: Bus::with_pages(memory, pages),
-        })
+        Some(Machine::over(Bus::with_pages(memory, pages)))
+    }
+
+    /// The same without pages of known operations.
+    pub fn pageless(alloc: Global) -> Option<Machine<L>>
+        requires slots { L.SLOTS ≡ 64 }
+        requires wired { L.WIRED ≡ 8 }
+    {
+        let memory = Memory::new(alloc).ok()?;
+        Some(Machine::over(Bus::new(memory)))
+    }
+
+    /// The same over a bus.
+    fn over(bus: Bus) -> Machine<L>
+        requires slots { L.SLOTS ≡ 64 }
+        requires wired { L.WIRED ≡ 8 }
+    {
+        let core = new_core([0; 32], 0, Cp0::new(), new_buffer());
+        Machine { core, bus }
     }
 
     /// Puts a program into a blank machine, which stands at its start in address space 1. Its code
