@@ -5,7 +5,7 @@
     tools/figures.py --check         says where the page differs from what is counted now; the status is 1 then
     tools/figures.py --seconds FILE  takes the processor seconds of a file of `tools/gate_times.py --keep` over into tools/figures.json, then writes the page
 
-What is counted: wrong bodies by crate, rows, tables and their cases, and what the programs that run cases print. What is measured lies in
+What is counted: wrong bodies by crate, rows, tables and their cases, words that run nothing, and what the programs that run cases print. What is measured lies in
 tools/figures.json: `runs`, whole commands with their minutes, which are written there by hand; `seconds`, by crate and kind, with the day.
 """
 import json
@@ -76,12 +76,15 @@ def words_of(top, path):
 def rows_of(top):
     """The part on rows, tables and cases."""
     rows, tables = words_of(top, "crates/rows/data/rows"), words_of(top, "crates/rows/data/tables")
-    cases = sum(int(it[1]) for it in (re.search(r": (\d+) as expected\Z", line) for line in words_of(top, "crates/rows/stdout")) if it)
+    told = words_of(top, "crates/rows/data/told")
+    lines = [it for it in words_of(top, "crates/rows/stdout") if not it.startswith("told: ")]
+    cases = sum(int(it[1]) for it in (re.search(r": (\d+) as expected\Z", line) for line in lines) if it)
     counted = [
         ["rows", len(rows)],
         ["of these, at a start of Random that they name", sum("--random" in it for it in rows)],
         ["tables", len(tables)],
         ["cases of the tables", cases],
+        ["words that run nothing", len(told)],
     ]
     found = ["## Rows and cases", "", "The program `rows` runs these:", "", *table(["What", "How many"], counted)]
     for program in sorted(Path(top, "crates").glob("*/stdout")):
