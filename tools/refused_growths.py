@@ -188,7 +188,7 @@ def compiled(folder):
 def main(words):
     parser = argparse.ArgumentParser(description=__doc__, formatter_class=argparse.RawDescriptionHelpFormatter)
     parser.add_argument("--dsmon", default=str(TOP / "crates/dsmon/out/dsmon"))
-    parser.add_argument("--tests", nargs="*", default=[str(TOP / f"crates/{it}/out/{it}_tests") for it in ("ds_run_tests", "ds_part_tests")])
+    parser.add_argument("--tests", nargs="*", default=[str(TOP / "crates/ds_tests/out/ds_tests_tests")])
     given = parser.parse_args(words)
     with tempfile.TemporaryDirectory(prefix="refused-growths-") as folder, ThreadPoolExecutor(len(os.sched_getaffinity(0))) as lanes:
         library = compiled(folder)

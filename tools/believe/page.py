@@ -47,7 +47,7 @@ LISTS = [
           ["`tools/unit_course.py`, which searches all courses of a unit for its longest"]),
     Asked(RUN, "run_files", ["once"],
           "How often the writer is asked.",
-          ["the tests of `ds_run_tests` with writers that fail"]),
+          ["the tests of `ds_tests` with writers that fail"]),
     Asked("", "", [],
           "What is true of every run of the page-map machine, and of its parts: what a user may rely on, which states a run comes to, and what can't be seen.",
           ["a guest's accesses in the rows of `hostile/`, `grants/late/` and `ends/`"],

@@ -1,7 +1,7 @@
 //! Want of memory. These tests pass whichever growth is refused: `rt try --test --fail-alloc N`.
-ghost use Rattle.std.specs.Prelude.{◌≤◌, length};
+ghost use Rattle.std.specs.Prelude.{◌≡◌, ◌≤◌, length, None};
 
-use crate::table::{is_filled, is_free};
+use crate::table::{is_free, is_set};
 use ds_mem::Memory;
 use ds_policy::{
     Character, Command, EventList, Events, EventsFault, Grant, Policy, PolicyRule, Right, Table,
@@ -68,6 +68,20 @@ fn for_want_of_memory_there_is_no_policy(rt: HostRuntime) {
 #[test]
 fn for_want_of_memory_there_is_no_policy_with_an_end(rt: HostRuntime) {
     assert!(rt; has_one_of_each(rt.alloc(), SMALL_ENDING, Some(1_000_000_000)));
+}
+
+/// Sets so many entries of process 1, from address 0 on; whether each was taken.
+fn is_filled(table: &mut Table, grant: Grant, count: u32) -> bool
+    requires processes { 1 ≤ length table.old }
+    requires few { count ≤ 256 }
+    requires parent { grant.parent ≡ None }
+    ensures { 1 ≤ length table.new }
+{
+    let mut taken = true;
+    for i in 0..count {
+        taken = is_set(table, i * 4096, grant) && taken;
+    }
+    taken
 }
 
 /// Whether a table takes 256 entries and no more, and has none of them when it is cleared.

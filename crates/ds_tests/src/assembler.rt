@@ -1,6 +1,6 @@
 //! What a source assembles to, where no run shows it.
 use ds_asm::{AsmFault, Image, assemble};
-use std::alloc::{AllocError, Global};
+use std::alloc::Global;
 
 /// Sources with bars between them, each after the length of its image and an equals sign.
 const LENGTHS: &str =
@@ -89,37 +89,4 @@ fn each_front_of_a_source_has_an_image_or_a_fault(rt: HostRuntime) {
         b"x: addu $a0,$sp,$ra # hi\n\tbeq $0, $0 ,x\r\n nop\n.word x\n lw $1, -4 ( $2 )\n".as_slice();
     let bad = b".byte -128\ny: .space 3\nj y\nj z\n.word -2147483649\ny:".as_slice();
     assert!(rt; has_fronts(rt.alloc(), good) && has_fronts(rt.alloc(), bad));
-}
-
-/// A source of 3,000 labels, each before an instruction, and the words of three of them.
-fn source_of_labels(alloc: Global) -> Result<String, AllocError> {
-    let mut text = String::new(alloc);
-    for number in 0..3000u32 {
-        write!(text, "l{number}: nop\n")?;
-    }
-    text.push_str(".word l0\n.word l1499\n.word l2999\n")?;
-    Ok(text)
-}
-
-/// Whether an image ends in the three words.
-fn has_labels(image: &Image) -> bool {
-    let words = [0, 0, 0x40, 0, 0x6C, 0x17, 0x40, 0, 0xDC, 0x2E, 0x40, 0];
-    let page = page_of(image, 2);
-    image.len() == 12_012 && &page[3808..3820] == words.as_slice()
-}
-
-/// Whether the source of the labels is assembled so.
-fn finds_labels(alloc: Global) -> bool {
-    let Ok(text) = source_of_labels(alloc) else {
-        return false;
-    };
-    match assemble(alloc, text.as_bytes()) {
-        Ok(image) => has_labels(&image),
-        Err(_) => false,
-    }
-}
-
-#[test]
-fn a_label_of_many_is_found(rt: HostRuntime) {
-    assert!(rt; finds_labels(rt.alloc()));
 }

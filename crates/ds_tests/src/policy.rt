@@ -1,5 +1,5 @@
 //! What a policy and an input say, where no row shows it.
-use ds_policy::{Events, EventsFault, Policy, address_of};
+use ds_policy::{Events, EventsFault, Policy, PolicyRule, address_of};
 use std::alloc::Global;
 
 /// A process, its code, a page of data, and a rule over the code.
@@ -71,4 +71,32 @@ fn reads_to_the_end(alloc: Global) -> bool {
 #[test]
 fn a_long_text_is_read(rt: HostRuntime) {
     assert!(rt; reads_to_the_end(rt.alloc()));
+}
+
+/// Two processes with a page. Rule 1 ends at time 5, rule 3 at time 3, and the others do not end.
+pub const ENDING: &str =
+    "version = 2\nframes = 1\nprocess = [{ start = 0, line = 0 }, { start = 0, line = 0 }]\npage = [{ name = \"a\" }]\nrule = [{ process = 1, address = 0x1000, right = \"read\", page = \"a\", until = 5 }, { process = 1, address = 0x2000, right = \"write\", page = \"a\" }, { process = 2, address = 0x1000, right = \"write\", page = \"a\", give = true, until = 3 }, { process = 2, address = 0x3000, right = \"none\" }]\n";
+
+/// Whether each rule ends when its text says.
+fn end_as_they_say(rules: &[PolicyRule]) -> bool {
+    let [first, second, third, fourth] = rules else {
+        return false;
+    };
+    first.until == Some(5)
+        && second.until.is_none()
+        && third.until == Some(3)
+        && fourth.until.is_none()
+}
+
+/// Whether the policy is read, and its rules end when their texts say.
+fn has_ends(alloc: Global) -> bool {
+    match Policy::read(alloc, ENDING.as_bytes()) {
+        Ok(policy) => end_as_they_say(policy.rules()),
+        Err(_) => false,
+    }
+}
+
+#[test]
+fn a_rule_of_version_2_may_have_an_end(rt: HostRuntime) {
+    assert!(rt; has_ends(rt.alloc()));
 }

@@ -1,5 +1,5 @@
 use Rattle.std.proofs.Common.{◌≤◌, length}
-use Rattle.ds_part_tests.proofs.table.is_filled.Given as goal
+use Rattle.ds_tests.proofs.growths.is_filled.Given as goal
 
 abbrev pub invariant-loop-i : goal.invariant-loop-i
 invariant-loop-i l = 1 ≤ length l.table

@@ -1,44 +1,8 @@
 //! The text of a state, sent to writers that stop anywhere.
+use crate::limited::{End, Limited};
 use ds_log::send_report;
 use std::alloc::Global;
-use std::io;
-use std::io::Write;
 use std::test::*;
-
-/// What a writer answers that takes no more.
-#[derive(Clone, Copy)]
-enum End {
-    Error,
-    Zero,
-}
-
-/// A writer that takes so many bytes at once, and so many in all.
-#[derive(Drop)]
-struct Limited {
-    held: Vec<u8>,
-    at_once: usize,
-    room: usize,
-    end: End,
-}
-
-impl Write for Limited {
-    fn write(&mut self, buf: &[u8]) -> io::Result<usize> {
-        let count = buf.len().min(self.at_once).min(self.room);
-        if count == 0 {
-            return match self.end {
-                End::Error => Err(io::Error::from(io::ErrorKind::BrokenPipe)),
-                End::Zero => Ok(0),
-            };
-        }
-        self.held.extend_from_slice(&buf[..count])?;
-        self.room -= count;
-        Ok(count)
-    }
-
-    fn flush(&mut self) -> io::Result<()> {
-        Ok(())
-    }
-}
 
 /// A denial that was logged.
 const LOG: &[u8] = b"0 1 00400000 load 00000000 r0 2\n";

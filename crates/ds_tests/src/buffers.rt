@@ -125,37 +125,3 @@ fn random_starts_from_the_wired_slots_to_the_last(rt: HostRuntime) {
     let small = starts_from::<Tlb<8, 1>>(1, 7) && starts_from::<Indexed<8, 1>>(1, 7);
     assert!(rt; large && narrow && small);
 }
-
-/// What a buffer of this type answers to the calls of a refill handler, each by its Index word; none
-/// where Random can't start at slot 9.
-fn index_words<L: Lookaside>() -> Option<[u32; 6]>
-    requires slots { L.SLOTS ≡ 64 }
-    requires wired { L.WIRED ≡ 8 }
-{
-    let Ok(mut buffer) = L::new(9) else {
-        return None;
-    };
-    let user = Entry {
-        vpn: 0x400,
-        asid: 5,
-        ..Entry::empty(0)
-    };
-    let before = buffer.probe(0x400, 5);
-    let at_random = buffer.write_random(user) as u32;
-    buffer.tick();
-    buffer.tick();
-    let wrapped = buffer.write_random(Entry { g: true, ..user }) as u32;
-    let lowest = buffer.probe(0x400, 5);
-    let global = buffer.probe(0x400, 6);
-    buffer.write(9, Entry::empty(9));
-    let left = buffer.probe(0x400, 5);
-    Some([before, at_random, wrapped, lowest, global, left])
-}
-
-#[test]
-fn the_lowest_match_is_probed_and_random_wraps_to_the_last_slot(rt: HostRuntime) {
-    let words = Some([0x8000_0000, 9, 63, 0x900, 0x3f00, 0x3f00]);
-    let searched = index_words::<Tlb<64, 8>>();
-    let indexed = index_words::<Indexed<64, 8>>();
-    assert!(rt; searched == words && indexed == words);
-}

@@ -1,5 +1,5 @@
 use Rattle.std.proofs.Common.{◌<◌, All}
-use Rattle.ds_part_tests.proofs.processes.a_hundred_processes_take_turns.Given as goal
+use Rattle.ds_tests.proofs.processes.a_hundred_processes_take_turns.Given as goal
 
 -- only lower numbers are in it
 abbrev pub invariant-loop-process : goal.invariant-loop-process

@@ -1,4 +1,5 @@
 //! The program over files and streams in memory, where no row of a table can make them.
+use crate::runs::{A, POLICY, PUT_A};
 use ds_asm::SourceFault;
 use ds_drive::{Failure, FileFault, Files, MOST_BYTES, SystemFiles, drive, refuse_words, tell};
 use ds_log::Output;
@@ -68,43 +69,6 @@ impl Write for Closed {
     }
 }
 
-const POLICY: &str = "version = 1
-frames = 16
-[[process]]
-start = 0x00400000
-line = 0
-[[page]]
-name = \"code\"
-source = \"one.s\"
-part = 0
-[[rule]]
-process = 1
-address = 0x00400000
-right = \"read\"
-page = \"code\"
-";
-
-/// Puts `A` and exits.
-const SOURCE: &str = ".word 0x24040041
-.word 0x24020001
-.word 0x0000000C
-.word 0x24020000
-.word 0x0000000C
-";
-
-/// What a run of `SOURCE` writes.
-const WRITTEN: &str = "console 0 1
-A
-console 1 0
-
-console 2 0
-
-console 3 0
-
-log 0
-time 5
-";
-
 const RUN: &str = "dsmon run p.toml in.txt 100";
 
 const DEMO: &str = "dsmon demo";
@@ -129,7 +93,7 @@ fn files_with<'a>(input: &'a str, source: &'a str) -> [(&'a str, &'a [u8]); 4] {
         ("p.toml", POLICY.as_bytes()),
         ("in.txt", input.as_bytes()),
         ("one.s", source.as_bytes()),
-        ("one.bin", SOURCE.as_bytes()),
+        ("one.bin", PUT_A.as_bytes()),
     ]
 }
 
@@ -192,108 +156,12 @@ fn answer_to_words(
     })
 }
 
-/// Words, and what stands in the text that answers them after a bar: their refusal, or help or the
-/// version.
-const TOLD_WORDS: &str = "|requires a subcommand
-dsmon|requires a subcommand
-dsmon walk|unrecognized subcommand 'walk'
-dsmon --fast|unexpected argument '--fast'
-dsmon demo now|unexpected argument 'now'
-dsmon demo --random 8|unexpected argument '--random'
-dsmon run|<POLICY>
-dsmon run p.toml|<INPUT>
-dsmon run p.toml in|<N>
-dsmon run p.toml in 10 63|unexpected argument '63'
-dsmon run p.toml in ten|'ten'
-dsmon run p.toml in 0x10|'0x10'
-dsmon run p.toml in |<N>
-dsmon run p.toml in 1000000000000000000000|<N>
-dsmon run p.toml in 1000000001|1000000001 is not in 0..=1000000000
-dsmon run p.toml in -1|unexpected argument '-1'
-dsmon run p.toml in 10 --random 256|256 is not in 0..=255
-dsmon run p.toml in 10 --random|--random
-dsmon run p.toml in 10 --random last|'last'
-dsmon run p.toml in 10 --random 8 --random 9|cannot be used multiple times
-dsmon run p.toml in 10 --from 5|unexpected argument '--from'
-dsmon run p.toml in 10 --must-end --must-end|cannot be used multiple times
-dsmon run p.toml in 10 --summary --summary|cannot be used multiple times
-dsmon run p.toml in 10 --memory|--memory
-dsmon run p.toml in 10 --memory 1:00410002:1|--memory takes P:ADDRESS:COUNT
-dsmon run p.toml in 10 --most|--most
-dsmon run p.toml in 10 --most many|'many'
-dsmon run p.toml in 10 --most 18446744073709551616|'18446744073709551616'
-dsmon run p.toml in 10 --most -1|unexpected argument '-1'
-dsmon run p.toml in 10 --most 1 --most 2|cannot be used multiple times
-dsmon trace p.toml in 10 --most 5|unexpected argument '--most'
-dsmon check p.toml --must-end|unexpected argument '--must-end'
-dsmon trace p.toml in 10 --from ten|'ten'
-dsmon trace p.toml in 10 --from 1 --from 2|cannot be used multiple times
-dsmon trace p.toml in 10 --to 1000000001|1000000001 is not in 0..=1000000000
-dsmon trace p.toml in 10 --process 0|0 is not in 1..=100
-dsmon trace p.toml in 10 --process 101|101 is not in 1..=100
-dsmon trace p.toml in 10 --process x|'x'
-dsmon trace p.toml in 10 --process 1 --process 0|0 is not in 1..=100
-dsmon trace p.toml in 10 --process 0 --process 1|0 is not in 1..=100
-dsmon trace p.toml in 10 --process 1 --process|--process
-dsmon trace p.toml in 10 --process 1 2|unexpected argument '2'
-dsmon trace p.toml in 10 --only|--only
-dsmon trace p.toml in 10 --only keys|--only takes end, calls, denials, switches or units
-dsmon --help|Usage: dsmon
-dsmon help|Usage: dsmon
-dsmon --version|dsmon 1.0.0
-dsmon run --help|[default: 63]
-dsmon run --help|from 0 to 1000000000
-dsmon trace --help|[default: 0]
-dsmon trace --help|  2 1 00400008 syscall  put 41  $2=00000000
-dsmon trace --help|--process 2 --process 3
-dsmon run --help|--memory 1:00410000:8 --memory 2:00410000:1
-dsmon run --help|docs/grading.md
-dsmon trace --help|docs/trace.md
-dsmon demo -h|Usage: dsmon demo
-dsmon list --help|  1  00400000  24020000    end:  addiu $2,$0,0
-dsmon check --help|  00400000 read  code, part 0 of guest.s, rule 1
-dsmon list --help|    addiu $v0,$zero,0
-dsmon bare --help|--names registers are called by their common names
-dsmon trace --help|    guest.s:4 main+4  1 1 00400004 addiu $v0,$zero,1  $v0=00000001
-dsmon explain --help|    to mend: write the right `write` there, or store to another page
-dsmon explain --help|docs/explain.md
-";
-
-/// Whether words are answered with status 1 and without output, and are told what is wanted.
-fn is_told(alloc: Global, words: &str, wanted: &str) -> Result<bool, AllocError> {
-    let answer = answer_to(alloc, words, &[])?;
-    let is_in = match std::str::from_utf8(answer.err.as_slice()) {
-        Ok(text) => text.contains(wanted),
-        Err(_) => false,
-    };
-    Ok(answer.status == 1 && answer.out.is_empty() && is_in)
-}
-
-/// Whether the words of a line are told what stands behind its bar.
-fn is_line_told(alloc: Global, line: &str) -> Result<bool, AllocError> {
-    match line.split_once('|') {
-        Some((words, wanted)) => is_told(alloc, words, wanted),
-        None => Ok(false),
-    }
-}
-
-#[test]
-fn words_that_run_nothing_are_told_why(rt: HostRuntime) -> Result<(), AllocError> {
-    let mut right = true;
-    for line in TOLD_WORDS.lines() {
-        right = is_line_told(rt.alloc(), line)? && right;
-    }
-    let answer = answer_to(rt.alloc(), "dsmon --version", &[])?;
-    assert!(rt; right && answer.err.ends_with(b"dsmon 1.0.0\n"));
-    Ok(())
-}
-
-/// Whether a command of which all goes well writes what a run of `SOURCE` does, and asks for these
+/// Whether a command of which all goes well writes what a run of `PUT_A` does, and asks for these
 /// files.
 fn is_run(alloc: Global, line: &str, asked: &str) -> Result<bool, AllocError> {
-    let answer = answer_to(alloc, line, &files_with("", SOURCE))?;
+    let answer = answer_to(alloc, line, &files_with("", PUT_A))?;
     let is_well = answer.status == 0 && answer.err.is_empty();
-    let is_written = answer.out.as_slice() == WRITTEN.as_bytes();
+    let is_written = answer.out.as_slice() == A.as_bytes();
     Ok(is_well && is_written && answer.asked.as_str() == asked)
 }
 
@@ -421,7 +289,7 @@ const NO_MEMORY: &[u8] = b"dsmon: 25 Memory\n";
 /// Whether a command whose output is closed tells so, and no more where that is all.
 fn is_write_fault(alloc: Global, line: &str, is_all: bool) -> Result<bool, AllocError> {
     let words = words_of(alloc, line)?;
-    let files = files_with(INPUT, SOURCE);
+    let files = files_with(INPUT, PUT_A);
     let mut held = Held {
         files: &files,
         asked: String::new(alloc),
@@ -474,12 +342,12 @@ fn a_closed_error_stream_changes_no_answer(rt: HostRuntime) -> Result<(), AllocE
     for (line, source, wanted) in [
         (LIST, BAD_SOURCE, 2),
         (CHECK, BAD_SOURCE, 2),
-        ("dsmon list none.s", SOURCE, 2),
-        ("dsmon check in.txt", SOURCE, 2),
-        ("dsmon run none.toml in.txt 100", SOURCE, 2),
-        ("dsmon demon", SOURCE, 1),
-        (LIST, SOURCE, 0),
-        (CHECK, SOURCE, 0),
+        ("dsmon list none.s", PUT_A, 2),
+        ("dsmon check in.txt", PUT_A, 2),
+        ("dsmon run none.toml in.txt 100", PUT_A, 2),
+        ("dsmon demon", PUT_A, 1),
+        (LIST, PUT_A, 0),
+        (CHECK, PUT_A, 0),
     ] {
         right = is_untold(rt.alloc(), line, source, wanted)? && right;
     }
@@ -619,7 +487,7 @@ fn is_text_or_memory(answer: &Answer) -> bool {
 /// Whether the command is answered twice by one text, or once by the text and once by want of
 /// memory with nothing written. The harness itself may be what lacks memory.
 fn is_whole_or_memory(alloc: Global, line: &str) -> Result<bool, AllocError> {
-    let files = files_with(INPUT, SOURCE);
+    let files = files_with(INPUT, PUT_A);
     let first = answer_to(alloc, line, &files)?;
     let second = answer_to(alloc, line, &files)?;
     let is_alike = match (first.status, second.status) {

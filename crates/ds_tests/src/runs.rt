@@ -1,7 +1,6 @@
 //! Runs that no file can hold: sources that are missing, writers that fail, memory that is refused,
 //! and stations that are looked at between their steps. `crates/rows` has the others.
 
-mod idle;
 mod limits;
 mod memory;
 mod refusals;

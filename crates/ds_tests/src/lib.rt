@@ -1,0 +1,40 @@
+//! Tests over public calls where a line of data is not enough: single calls whose answer nothing
+//! writes, refused memory, writers that fail, files and streams in memory, and stations that are
+//! looked at between their steps. They stand apart from the crates that they test, so that each of
+//! those is proved once. What is a table stands in `part_cases` and `rows`.
+#![tactic(auto)]
+
+#[cfg(test)]
+mod assembler;
+#[cfg(test)]
+mod buffers;
+#[cfg(test)]
+mod explained;
+#[cfg(test)]
+mod faults;
+#[cfg(test)]
+mod growths;
+#[cfg(test)]
+mod instructions;
+#[cfg(test)]
+mod limited;
+#[cfg(test)]
+mod listing;
+#[cfg(test)]
+mod log;
+#[cfg(test)]
+mod pages;
+#[cfg(test)]
+mod policy;
+#[cfg(test)]
+mod processes;
+#[cfg(test)]
+mod program;
+#[cfg(test)]
+mod report;
+#[cfg(test)]
+mod rows;
+#[cfg(test)]
+mod runs;
+#[cfg(test)]
+mod table;
