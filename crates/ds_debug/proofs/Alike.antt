@@ -18,21 +18,21 @@ use Rattle.ds_refinement.specs.Stands.{Stands}
 use Rattle.ds_station.proofs.Headlines.{consoles_stand, time_stands}
 use Rattle.ds_station.proofs.Standings.{as_many, standing_stands, unended_stands}
 use Rattle.ds_station.specs.declared.outcome.Unended.{Unended}
-use Rattle.ds_debug.specs.Each.{each}
+use Rattle.ds_gdb.specs.Each.{each}
 use Rattle.ds_debug.specs.Answers.{answer_text, are_there, info_text, is_there, of_process, run_report_text}
 use Rattle.ds_debug.specs.Answering.{plain_text}
 use Rattle.ds_debug.specs.Memory.{memory_text}
-use Rattle.ds_debug.specs.Outputs.{outputs_text}
+use Rattle.ds_gdb.specs.Outputs.{outputs_text}
 use Rattle.ds_debug.specs.Registers.{register_text, registers_text}
 use Rattle.ds_debug.specs.Reports.{is_runner, listed_process, process_line, thread_words, time_text}
 use Rattle.ds_debug.specs.Sessions.{SessionState, standing_by, told_first}
 use Rattle.ds_debug.specs.Sights.{Sight, sight_held}
 use Rattle.ds_debug.specs.Inner.Sights.{sight_in}
-use Rattle.ds_debug.specs.Stops.{stop_text}
+use Rattle.ds_gdb.specs.Stops.{stop_text}
 use Rattle.ds_debug.specs.Tables.{entries_text}
-use Rattle.ds_debug.specs.Threads.{threads_text}
+use Rattle.ds_gdb.specs.Threads.{threads_text}
 use Rattle.ds_debug.specs.declared.registers.Registers as declared
-use Rattle.ds_debug.specs.declared.stops.Reason.TheVariants.{Rest}
+use Rattle.ds_gdb.specs.declared.stops.Reason.TheVariants.{Rest}
 use Rattle.ds_debug.proofs.Shown.{registers_shown}
 
 -- the same is seen

@@ -1,4 +1,3 @@
-pub mod Pieces
 pub mod Bytes
 pub mod Shown
 pub mod Going
@@ -9,5 +8,4 @@ pub mod Exiting
 pub mod Settings
 pub mod Alike
 pub mod Looking
-pub mod Hearing
 pub mod Served

@@ -20,15 +20,15 @@ use Rattle.ds_debug.specs.Inner.Inputs.{IsReached}
 use Rattle.ds_debug.specs.Places.{Finds, HasFound, began_at, earlier, or_else, place_after}
 use Rattle.ds_debug.specs.Resumes.{asked_of, goal_of}
 use Rattle.ds_debug.specs.Sessions.{SessionState, named_or}
-use Rattle.ds_debug.specs.Stops.{stop_text}
+use Rattle.ds_gdb.specs.Stops.{stop_text}
 use Rattle.ds_debug.specs.Times.{still_asked, asked_place}
 use Rattle.ds_debug.specs.Watches.{all_seen}
-use Rattle.ds_debug.specs.declared.goals.Breakpoint.{Breakpoint}
-use Rattle.ds_debug.specs.declared.watches.Watchpoint.{Watchpoint}
+use Rattle.ds_gdb.specs.declared.points.Breakpoint.{Breakpoint}
+use Rattle.ds_gdb.specs.declared.points.Watchpoint.{Watchpoint}
 use Rattle.ds_debug.specs.declared.places.Place.{Place}
 use Rattle.ds_debug.specs.declared.places.Sought.{Sought}
 use Rattle.ds_debug.specs.declared.places.Sought.TheVariants.{LastTurn, LastStop}
-use Rattle.ds_debug.specs.declared.stops.Reason.{Reason}
+use Rattle.ds_gdb.specs.declared.stops.Reason.{Reason}
 
 -- on no turn nothing is found
 pub none_found : (s : Sought) (g : Goal) (until : ℕ) (h : Held) → HasFound s g until None h h

@@ -1,242 +1,56 @@
--- What is written while bytes are read is what is heard of them, one after another.
-use Rattle.std.proofs.Common.{◌≡◌, ◌⊎◌, inl, inr, ℕ, Bool, true, false, List, [], ◌∷◌, ◌++◌, append_assoc, append-nil, refl, sym, ap, subst, ◌∙◌}
-use Rattle.std.specs.Prelude.{Option, Result, Ok, Err}
-use Rattle.std.specs.Io.KnownBytes.{Appends, Consumes, Keeps}
-use Rattle.std.proofs.KnownBytes.{Consumes-nil, Consumes-trans, Consumes-kept}
-use Rattle.ds_log.specs.Sent.{AppendsPart}
-use Rattle.ds_log.proofs.Sends.{appends_both, appends_none, part_before, part_after}
+-- A session over a reader and a writer.
+use Rattle.std.proofs.Common.{◌≡◌, inr, ℕ, List, [], refl, ap, subst, ◌∙◌}
+use Rattle.std.specs.Prelude.{Result, Ok, Err}
 use Rattle.ds_packets.specs.Packets.{packet_of}
-use Rattle.ds_packets.specs.Scanning.{came, scanned, start}
-use Rattle.ds_packets.specs.Streams.{all_came, as_list}
 use Rattle.ds_packets.specs.declared.packet.Packet.{Packet}
 use Rattle.ds_packets.specs.declared.packet.Refusal.{Refusal}
-use Rattle.ds_packets.specs.declared.scan.PacketFault.{PacketFault}
+use Rattle.ds_gdb.specs.Serving.{EndsSo, Pipes, Serves, ServesPart, stream_of}
+use Rattle.ds_gdb.specs.Streams.{Adds, StreamState}
+use Rattle.ds_gdb.specs.declared.serving.Ending.{Ending}
 use Rattle.ds_station.specs.declared.fault.Fault.{Fault}
-use Rattle.ds_debug.specs.Answering.{AnswersBy, AnswersWhere, course_by}
-use Rattle.ds_debug.specs.Serving.{Debugs, EndsSo, IsLate, Pipes, ServedPart, Serves, ServesPart, WritesSo, pipes, stream_at}
-use Rattle.ds_debug.specs.Inner.Serving.{DebugEndsBy, IsCutAt, IsCutIn, WritesFront}
+use Rattle.ds_debug.specs.Answering.{Answers, AnswersBy, AnswersWhere, course_by}
+use Rattle.ds_debug.specs.Serving.{Debugs, IsLate, Replies, stream_at}
+use Rattle.ds_debug.specs.Inner.Serving.{DebugEndsBy}
 use Rattle.ds_debug.specs.Inputs.{IsBeginning, RunInputs}
 use Rattle.ds_debug.specs.Sessions.{SessionState, begun}
-use Rattle.ds_debug.specs.Streams.{AnswersWords, ExchangeState, Hears, HearsAll, HearsBy, HearsLive, HearsWords, StreamState, mark_text}
-use Rattle.ds_debug.specs.declared.serving.Ending.{Ending}
 use Rattle.ds_debug.specs.declared.session.Course.{Course}
 use Rattle.ds_debug.specs.declared.session.Course.TheVariants as course
-use Rattle.ds_debug.proofs.Hearing.{byte_heard, chunks_join, ended_hears, live_hears, nothing_heard, one_heard}
 
 -- What is answered does not depend on what was written before.
 
-told_after : (p before text after : List ℕ) → after ≡ before ++ text → p ++ after ≡ (p ++ before) ++ text
-told_after p before text after is = ap (λ (x : List ℕ). p ++ x) is ∙ sym (append_assoc p before text)
+module _ (words : List ℕ) (old new : SessionState) (before after : List ℕ) where
+  where_alone : (by : Course) (packet : Packet) → AnswersWhere by words packet old new before after → Adds (AnswersWhere by words packet old new []) before after
+  where_alone course.Nowhere packet t = record { text = _; so = record { now = t.now; told = refl }; told = t.told }
+  where_alone (course.Forward action) packet r = record { text = _; so = record { stop = r.stop; goes = r.goes; rest = r.rest; told = refl }; told = r.told }
+  where_alone (course.Backward action) packet r =
+      record { text = _; so = record { found = r.found; finds = r.finds; place = r.place; asked = r.asked; comes = r.comes; rest = r.rest; told = refl }; told = r.told }
 
-module _ (p : List ℕ) where
-  where_after : (by : Course) (words : List ℕ) (packet : Packet) (old new : SessionState) (before after : List ℕ) → AnswersWhere by words packet old new before after → AnswersWhere by words packet old new (p ++ before) (p ++ after)
-  where_after course.Nowhere words packet old new before after t = record { now = t.now; told = told_after p before _ after t.told }
-  where_after (course.Forward action) words packet old new before after r = record { stop = r.stop; goes = r.goes; rest = r.rest; told = told_after p before _ after r.told }
-  where_after (course.Backward action) words packet old new before after r =
-      record { found = r.found; finds = r.finds; place = r.place; asked = r.asked; comes = r.comes; rest = r.rest; told = told_after p before _ after r.told }
+  by_alone : (r : Result Packet Refusal) → AnswersBy words r old new before after → Adds (AnswersBy words r old new []) before after
+  by_alone (Ok packet) t = where_alone (course_by packet) packet t
+  by_alone (Err refusal) t = record { text = _; so = record { now = t.now; told = refl }; told = t.told }
 
-  by_after : (words : List ℕ) (r : Result Packet Refusal) (old new : SessionState) (before after : List ℕ) → AnswersBy words r old new before after → AnswersBy words r old new (p ++ before) (p ++ after)
-  by_after words (Ok packet) old new before after t = where_after (course_by packet) words packet old new before after t
-  by_after words (Err refusal) old new before after t = record { now = t.now; told = told_after p before _ after t.told }
-
-  pub words_after : (words : List ℕ) (old new : ExchangeState) (before after : List ℕ) → AnswersWords words old new before after → AnswersWords words old new (p ++ before) (p ++ after)
-  words_after words old new before after a = record { answers = by_after words (packet_of words) old.session new.session before after a.answers; rest = a.rest }
-
-  live_past : (item : Result (List ℕ) PacketFault) (old new : ExchangeState) (before after : List ℕ) → HearsLive item old new before after → HearsLive item old new (p ++ before) (p ++ after)
-  live_past (Ok words) old new before after h =
-      let mark : List ℕ = mark_text old.acknowledges 43 in
-      subst (λ (x : List ℕ). AnswersWords words old new x (p ++ after)) (sym (append_assoc p before mark)) (words_after words old new (before ++ mark) after h)
-  live_past (Err fault) old new before after m = record { same = m.same; told = told_after p before _ after m.told }
-
-  heard_after : (ended : Bool) (item : Result (List ℕ) PacketFault) (old new : ExchangeState) (before after : List ℕ) → HearsBy ended item old new before after → HearsBy ended item old new (p ++ before) (p ++ after)
-  heard_after true item old new before after m = record { same = m.same; told = told_after p before _ after m.told }
-  heard_after false item old new before after h = live_past item old new before after h
-
-  all_past : (items : List (Result (List ℕ) PacketFault)) (old new : ExchangeState) (before after : List ℕ) → HearsAll items old new before after → HearsAll items old new (p ++ before) (p ++ after)
-  all_past [] old new before after m = record { same = m.same; told = told_after p before _ after m.told }
-  all_past (item ∷ items) old new before after g =
-      (g.0, p ++ g.1, heard_after old.ended item old g.0 before g.1 g.2, all_past items g.0 new g.1 after g.3)
-
-  -- so of a stream, after nothing
-  pub hears_past : (bytes : List ℕ) (old new : StreamState) (text : List ℕ) → Hears bytes old new [] text → Hears bytes old new p (p ++ text)
-  hears_past bytes old new text h =
-      let items : List (Result (List ℕ) PacketFault) = all_came old.scan bytes in
-      record {
-        scan = h.scan;
-        heard = subst (λ (x : List ℕ). HearsAll items old.exchange new.exchange x (p ++ text)) (append-nil p) (all_past items old.exchange new.exchange [] text h.heard);
-      }
-
--- bytes, and then more
-hears_both : (xs ys : List ℕ) (a b c : StreamState) (s t : List ℕ) → Hears xs a b [] s → Hears ys b c [] t → Hears (xs ++ ys) a c [] (s ++ t)
-hears_both xs ys a b c s t g h = chunks_join xs ys a b c [] s (s ++ t) g (hears_past s ys b c t h)
-
--- one byte, with which something comes or nothing
-hears_one : (b : ℕ) (o : Option (Result (List ℕ) PacketFault)) (old new : StreamState) (text : List ℕ) → o ≡ came old.scan b → new.scan ≡ scanned old.scan b
-    → HearsAll (as_list o) old.exchange new.exchange [] text → Hears (b ∷ []) old new [] text
-hears_one b o old new text is scan h = record { scan = scan; heard = byte_heard old.scan b o old.exchange new.exchange [] text is h }
-
--- What is written.
-
--- a packet is acknowledged and answered
-pub words_written : (words : List ℕ) (old new : ExchangeState) (w0 w1 w2 : Option (List ℕ)) (text : List ℕ) → Appends w0 w1 (mark_text old.acknowledges 43) → AnswersWords words old new [] text → Appends w1 w2 text
-    → WritesSo (HearsWords words old new []) w0 w2
-words_written words old new w0 w1 w2 text marked answers written =
-    let mark : List ℕ = mark_text old.acknowledges 43 in
-    record {
-      text = mark ++ text;
-      so = subst (λ (x : List ℕ). AnswersWords words old new x (mark ++ text)) (append-nil mark) (words_after mark words old new [] text answers);
-      written = appends_both w0 w1 w2 mark text marked written;
-    }
-
--- it is acknowledged, and then memory or the run gives out
-pub words_unanswered : (words : List ℕ) (old : ExchangeState) (w0 w1 : Option (List ℕ)) → Appends w0 w1 (mark_text old.acknowledges 43) → IsCutAt words old w0 w1
-words_unanswered words old w0 w1 marked = inl (record { part = mark_text old.acknowledges 43; rest = []; whole = append-nil _; appends = marked })
-
--- it is acknowledged and answered, and the answer goes out in part
-pub words_cut : (words : List ℕ) (old new : ExchangeState) (w0 w1 w2 : Option (List ℕ)) (text : List ℕ) → Appends w0 w1 (mark_text old.acknowledges 43) → AnswersWords words old new [] text → AppendsPart w1 w2 text → IsCutAt words old w0 w2
-words_cut words old new w0 w1 w2 text marked answers written =
-    let mark : List ℕ = mark_text old.acknowledges 43 in
-    inr (
-      new,
-      record {
-        text = mark ++ text;
-        so = subst (λ (x : List ℕ). AnswersWords words old new x (mark ++ text)) (append-nil mark) (words_after mark words old new [] text answers);
-        written = part_after w0 w1 w2 mark text marked written;
-      },
-    )
-
-module _ (item : Result (List ℕ) PacketFault) (old : ExchangeState) where
-  -- a session that has ended hears nothing
-  pub ended_written : (w : Option (List ℕ)) → old.ended ≡ true → WritesSo (HearsAll (item ∷ []) old old []) w w
-  ended_written w ended = record { text = []; so = one_heard item old old [] [] (ended_hears item old [] ended); written = appends_none w }
-
-  -- one that has not hears what came
-  pub live_written : (new : ExchangeState) (w0 w1 : Option (List ℕ)) → old.ended ≡ false → WritesSo (HearsLive item old new []) w0 w1 → WritesSo (HearsAll (item ∷ []) old new []) w0 w1
-  live_written new w0 w1 live w = record { text = w.text; so = one_heard item old new [] w.text (live_hears item old new [] w.text live w.so); written = w.written }
-
-  -- and what is written then in part
-  pub live_cut : (w0 w1 : Option (List ℕ)) → old.ended ≡ false → AppendsPart w0 w1 (mark_text old.acknowledges 43) ⊎ ((new : ExchangeState) × WritesFront (HearsLive item old new []) w0 w1) → IsCutIn (item ∷ []) old w0 w1
-  live_cut w0 w1 live (inl m) = inl m
-  live_cut w0 w1 live (inr f) = inr (f.0, record { text = f.1.text; so = one_heard item old f.0 [] f.1.text (live_hears item old f.0 [] f.1.text live f.1.so); written = f.1.written })
-
--- what is refused
-pub refused_written : (fault : PacketFault) (old : ExchangeState) (w0 w1 : Option (List ℕ)) → Appends w0 w1 (mark_text old.acknowledges 45) → WritesSo (HearsLive (Err fault) old old []) w0 w1
-refused_written fault old w0 w1 written = record { text = mark_text old.acknowledges 45; so = record { same = refl; told = refl }; written = written }
-
-pub refused_cut : (fault : PacketFault) (old : ExchangeState) (w0 w1 : Option (List ℕ)) → AppendsPart w0 w1 (mark_text old.acknowledges 45)
-    → AppendsPart w0 w1 (mark_text old.acknowledges 43) ⊎ ((new : ExchangeState) × WritesFront (HearsLive (Err fault) old new []) w0 w1)
-refused_cut fault old w0 w1 written = inr (old, record { text = mark_text old.acknowledges 45; so = record { same = refl; told = refl }; written = written })
-
--- nothing came
-pub none_written : (e : ExchangeState) (w : Option (List ℕ)) → WritesSo (HearsAll [] e e []) w w
-none_written e w = record { text = []; so = nothing_heard e []; written = appends_none w }
-
--- of no bytes nothing is written
-pub stream_begins : (s : StreamState) (w : Option (List ℕ)) → WritesSo (Hears [] s s []) w w
-stream_begins s w = record { text = []; so = record { scan = refl; heard = nothing_heard s.exchange [] }; written = appends_none w }
-
-module _ (bytes : List ℕ) (b : ℕ) (o : Option (Result (List ℕ) PacketFault)) (old last : StreamState) (w0 w1 w2 : Option (List ℕ)) where
-  -- one byte more
-  pub stream_goes_on : (new : StreamState) → WritesSo (Hears bytes old last []) w0 w1 → o ≡ came last.scan b → new.scan ≡ scanned last.scan b
-      → WritesSo (HearsAll (as_list o) last.exchange new.exchange []) w1 w2 → WritesSo (Hears (bytes ++ b ∷ []) old new []) w0 w2
-  stream_goes_on new g is scan h = record {
-    text = g.text ++ h.text;
-    so = hears_both bytes (b ∷ []) old last new g.text h.text g.so (hears_one b o last new h.text is scan h.so);
-    written = appends_both w0 w1 w2 g.text h.text g.written h.written;
-  }
-
-  -- or it is not answered whole
-  pub stream_is_cut : (rest all : List ℕ) → bytes ++ b ∷ rest ≡ all → WritesSo (Hears bytes old last []) w0 w1 → o ≡ came last.scan b → IsCutIn (as_list o) last.exchange w1 w2 → ServedPart all old w0 w2
-  stream_is_cut rest all whole g is (inl m) = record {
-    some = bytes;
-    rest = b ∷ rest;
-    whole = whole;
-    last = last;
-    text = g.text;
-    hears = g.so;
-    written = part_after w0 w1 w2 g.text (mark_text last.exchange.acknowledges 43) g.written m;
-  }
-  stream_is_cut rest all whole g is (inr f) =
-      let new : StreamState = record { scan = scanned last.scan b; exchange = f.0 } in
-      record {
-        some = bytes ++ b ∷ [];
-        rest = rest;
-        whole = append_assoc bytes (b ∷ []) rest ∙ whole;
-        last = new;
-        text = g.text ++ f.1.text;
-        hears = hears_both bytes (b ∷ []) old last new g.text f.1.text g.so (hears_one b o last new f.1.text is refl f.1.so);
-        written = part_before w0 w2 (g.text ++ f.1.text) (mark_text f.0.acknowledges 43) (part_after w0 w1 w2 g.text f.1.text g.written f.1.written);
-      }
-
--- What is read.
-
--- nothing yet
-pub serving_begins : (s : StreamState) (r w : Option (List ℕ)) → Serves s s (pipes r r w w)
-serving_begins s r w = record { bytes = []; read = Consumes-nil r; heard = stream_begins s w }
-
-module _ (a b : StreamState) (r0 r1 r2 w0 w1 w2 : Option (List ℕ)) where
-  -- some more, and what is answered to it
-  pub serving_goes_on : (c : StreamState) → Serves a b (pipes r0 r1 w0 w1) → Serves b c (pipes r1 r2 w1 w2) → Serves a c (pipes r0 r2 w0 w2)
-  serving_goes_on c g h = record {
-    bytes = g.bytes ++ h.bytes;
-    read = Consumes-trans r0 r1 r2 g.bytes h.bytes g.read h.read;
-    heard = record {
-      text = g.heard.text ++ h.heard.text;
-      so = hears_both g.bytes h.bytes a b c g.heard.text h.heard.text g.heard.so h.heard.so;
-      written = appends_both w0 w1 w2 g.heard.text h.heard.text g.heard.written h.heard.written;
-    };
-  }
-
-  -- or it is not answered whole
-  pub serving_is_cut : Serves a b (pipes r0 r1 w0 w1) → ServesPart b (pipes r1 r2 w1 w2) → ServesPart a (pipes r0 r2 w0 w2)
-  serving_is_cut g h = record {
-    bytes = g.bytes ++ h.bytes;
-    read = Consumes-trans r0 r1 r2 g.bytes h.bytes g.read h.read;
-    part = record {
-      some = g.bytes ++ h.part.some;
-      rest = h.part.rest;
-      whole = append_assoc g.bytes h.part.some h.part.rest ∙ ap (λ (x : List ℕ). g.bytes ++ x) h.part.whole;
-      last = h.part.last;
-      text = g.heard.text ++ h.part.text;
-      hears = hears_both g.bytes h.part.some a b h.part.last g.heard.text h.part.text g.heard.so h.part.hears;
-      written =
-          let mark : List ℕ = mark_text h.part.last.exchange.acknowledges 43 in
-          subst (AppendsPart w0 w2) (sym (append_assoc g.heard.text h.part.text mark)) (part_after w0 w1 w2 g.heard.text (h.part.text ++ mark) g.heard.written h.part.written);
-    };
-  }
-
--- bytes that were read are answered
-pub some_served : (bytes : List ℕ) (a b : StreamState) (r0 r1 w0 w1 : Option (List ℕ)) → Consumes r0 r1 bytes → WritesSo (Hears bytes a b []) w0 w1 → Serves a b (pipes r0 r1 w0 w1)
-some_served bytes a b r0 r1 w0 w1 read heard = record { bytes = bytes; read = read; heard = heard }
-
-pub some_cut : (bytes : List ℕ) (a : StreamState) (r0 r1 w0 w1 : Option (List ℕ)) → Consumes r0 r1 bytes → ServedPart bytes a w0 w1 → ServesPart a (pipes r0 r1 w0 w1)
-some_cut bytes a r0 r1 w0 w1 read part = record { bytes = bytes; read = read; part = part }
-
--- a read that failed
-pub none_served : (s : StreamState) (r0 r1 w : Option (List ℕ)) → Keeps r0 r1 → Serves s s (pipes r0 r1 w w)
-none_served s r0 r1 w kept = record { bytes = []; read = Consumes-kept r0 r0 r1 [] (Consumes-nil r0) kept; heard = stream_begins s w }
+  -- so of the answer to any data
+  pub answer_alone : Answers words old new before after → Adds (Replies words old new) before after
+  answer_alone t = by_alone (packet_of words) t
 
 -- The whole session.
 
-abbrev stream_of : SessionState → StreamState
-stream_of s = record { scan = start; exchange = record { session = s; acknowledges = true; ended = false } }
-
 -- the stream of a session that has just begun
-stream_begun : (i : RunInputs) (n : ℕ) (s : SessionState) (stream : StreamState) → s ≡ begun i n s.held → stream ≡ stream_of s → stream ≡ stream_at i n s.held
+stream_begun : (i : RunInputs) (n : ℕ) (s : SessionState) (stream : StreamState SessionState) → s ≡ begun i n s.held → stream ≡ stream_of s → stream ≡ stream_at i n s.held
 stream_begun i n s stream begins is = is ∙ ap stream_of begins
 
-module _ (i : RunInputs) (n : ℕ) (s : SessionState) (stream : StreamState) (p : Pipes) (starts : IsBeginning i n s.held) (begins : s ≡ begun i n s.held)
+module _ (i : RunInputs) (n : ℕ) (s : SessionState) (stream : StreamState SessionState) (p : Pipes) (starts : IsBeginning i n s.held) (begins : s ≡ begun i n s.held)
     (is : stream ≡ stream_of s) where
   -- it was held to its end
-  pub session_held : (ending : Ending) (last : StreamState) → Serves stream last p → EndsSo ending last p → Debugs ending i n p
+  pub session_held : (ending : Ending) (last : StreamState SessionState) → Serves Replies stream last p → EndsSo ending last p → Debugs ending i n p
   session_held ending last serves ends = record {
     first = s.held;
     begins = starts;
     last = last;
-    serves = subst (λ (x : StreamState). Serves x last p) (stream_begun i n s stream begins is) serves;
+    serves = subst (λ (x : StreamState SessionState). Serves Replies x last p) (stream_begun i n s stream begins is) serves;
     ends = ends;
   }
 
   -- or cut short by a fault
-  pub session_cut : (f : Fault) → IsLate f → ServesPart stream p → DebugEndsBy f i n p
-  session_cut f late part = inr (late, record { first = s.held; begins = starts; serves = subst (λ (x : StreamState). ServesPart x p) (stream_begun i n s stream begins is) part })
+  pub session_cut : (f : Fault) → IsLate f → ServesPart Replies stream p → DebugEndsBy f i n p
+  session_cut f late part = inr (late, record { first = s.held; begins = starts; serves = subst (λ (x : StreamState SessionState). ServesPart Replies x p) (stream_begun i n s stream begins is) part })

@@ -1,6 +1,5 @@
 -- The process that a session looks at has a small number.
-use Rattle.std.proofs.Common.{◌≡◌, ℕ, zero, suc, ◌+◌, ◌<◌, ◌≤◌, Bool, true, false, cond, ◌==◌, List, length, position, Option, Some, None, refl, sym, ap, ◌∙◌, arith}
-use Rattle.std.specs.Prelude.{◌&&◌}
+use Rattle.std.proofs.Common.{◌≡◌, ℕ, zero, suc, ◌+◌, ◌<◌, ◌≤◌, Bool, true, false, cond, length, Option, Some, refl, arith}
 use Rattle.std.proofs.lemmas.Bool.Decides.{nat_tests}
 use Rattle.ds_packets.specs.declared.packet.Who.{Who}
 use Rattle.ds_packets.specs.declared.packet.Who.TheVariants as who
@@ -10,10 +9,7 @@ use Rattle.ds_station.specs.Outcome.{first_unended, unended_from}
 use Rattle.ds_station.specs.declared.outcome.Unended.{Unended}
 use Rattle.ds_debug.specs.Answers.{are_there, is_there}
 use Rattle.ds_debug.specs.Sights.{sight_held}
-use Rattle.ds_packets.specs.declared.packet.Packet.TheVariants.{Unbreak, Unwatch}
-use Rattle.ds_debug.specs.Sessions.{SessionState, after_setting, is_same_watch, named_or, watch_of, without_breakpoint, without_one}
-use Rattle.ds_debug.specs.declared.goals.Breakpoint.{Breakpoint}
-use Rattle.ds_debug.specs.declared.watches.Watchpoint.{Watchpoint}
+use Rattle.ds_debug.specs.Sessions.{named_or}
 
 there_small : (h : Held) (p : ℕ) → length h.kept.state.processes ≤ 100 → is_there (sight_held h) p ≡ true → p < 256
 there_small h p few there = grind (arith, nat_tests)
@@ -38,12 +34,3 @@ unended_within m p (suc n) u is =
 -- so it is small
 pub unended_small : (m : State) (u : Unended) → Some u ≡ first_unended m → length m.processes ≤ 100 → u.process < 256
 unended_small m u is few = let within = unended_within m 1 (length m.processes) u is in omega (arith, within, few)
-
--- a breakpoint that is not there is not taken away
-pub unbreak_none : (s : SessionState) (a : ℕ) (o : Option ℕ) → o ≡ position (λ b. (b.process == s.process) && (b.address == a)) s.breakpoints → o ≡ None → s ≡ after_setting s (Unbreak a)
-unbreak_none s a o is none =
-    ap (λ (bs : List Breakpoint). record s { breakpoints = bs }) (ap (λ (x : Option ℕ). without_breakpoint x s.breakpoints) (sym none ∙ is))
-
--- nor is a watch
-pub unwatch_none : (s : SessionState) (a l : ℕ) (o : Option ℕ) → o ≡ position (is_same_watch (watch_of s a l)) s.watchpoints → o ≡ None → s ≡ after_setting s (Unwatch a l)
-unwatch_none s a l o is none = ap (λ (ws : List Watchpoint). record s { watchpoints = ws }) (ap (λ (x : Option ℕ). without_one x s.watchpoints) (sym none ∙ is))

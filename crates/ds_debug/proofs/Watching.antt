@@ -6,7 +6,7 @@ use Rattle.ds_debug.specs.Goals.{Aim, first_changed, has_changed, watch_stop}
 use Rattle.ds_debug.specs.Watches.{seen_at, seen_from}
 use Rattle.ds_debug.specs.declared.goals.Stop.{Stop}
 use Rattle.ds_debug.specs.declared.watches.Seen.{Seen}
-use Rattle.ds_debug.specs.declared.watches.Watchpoint.{Watchpoint}
+use Rattle.ds_gdb.specs.declared.points.Watchpoint.{Watchpoint}
 
 one_left : (count i : ℕ) → i < count → count - i ≡ suc (count - (i + 1))
 one_left count i within = omega (arith, within)

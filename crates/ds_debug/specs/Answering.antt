@@ -5,17 +5,17 @@ use Rattle.ds_packets.specs.Packets.{packet_of}
 use Rattle.ds_packets.specs.declared.packet.Packet.{Packet}
 use Rattle.ds_packets.specs.declared.packet.Packet.TheVariants.{NoAcknowledgements, Why, Monitor, StopAt, Look, Go, Break, Unbreak, Watch, Unwatch, Resume, Forward, Backward, End}
 use Rattle.ds_packets.specs.declared.packet.Refusal.{Refusal}
-use Rattle.ds_packets.specs.declared.packet.Refusal.TheVariants.{Unknown, Malformed}
 use Rattle.ds_debug.specs.Answers.{answer_text, run_report_text}
 use Rattle.ds_debug.specs.Backward.{Returns}
-use Rattle.ds_debug.specs.Outputs.{outputs_text}
+use Rattle.ds_gdb.specs.Replies.{packet_error_text}
+use Rattle.ds_gdb.specs.Outputs.{outputs_text}
 use Rattle.ds_debug.specs.Resumes.{Resumes}
 use Rattle.ds_debug.specs.Sessions.{SessionState, after_setting, setting_text, sight_of, told_first}
 use Rattle.ds_debug.specs.Sights.{Sight}
-use Rattle.ds_debug.specs.Stops.{stop_text}
+use Rattle.ds_gdb.specs.Stops.{stop_text}
 use Rattle.ds_debug.specs.declared.session.Course.{Course}
 use Rattle.ds_debug.specs.declared.session.Course.TheVariants as course
-use Rattle.ds_debug.specs.declared.stops.Reason.TheVariants.{Rest}
+use Rattle.ds_gdb.specs.declared.stops.Reason.TheVariants.{Rest}
 
 -- the session is now that, and this was answered
 pub record AnswersText (state : SessionState) (text : List ℕ) (new : SessionState) (before after : List ℕ) : Type 0 where
@@ -65,11 +65,6 @@ AnswersWhere (course.Backward action) words packet s = Returns action s
 -- by the packet, whose data has these words
 abbrev pub AnswersPacket : List ℕ → Packet → SessionState → SessionState → List ℕ → List ℕ → Type 0
 AnswersPacket words packet = AnswersWhere (course_by packet) words packet
-
--- the error of a packet that is not known, which is empty, or malformed
-abbrev pub packet_error_text : Refusal → List ℕ
-packet_error_text Unknown = []
-packet_error_text Malformed = codes "E16"
 
 -- by what the words say
 abbrev pub AnswersBy : List ℕ → Result Packet Refusal → SessionState → SessionState → List ℕ → List ℕ → Type 0

@@ -7,21 +7,14 @@ use Rattle.ds_packets.specs.declared.packet.Report.{Report}
 use Rattle.ds_packets.specs.declared.packet.Report.TheVariants as report
 use Rattle.ds_packets.specs.declared.packet.Who.{Who}
 use Rattle.ds_packets.specs.declared.packet.Who.TheVariants as who
-use Rattle.ds_debug.specs.Description.{description_text, text_part}
+use Rattle.ds_gdb.specs.Description.{description_text, text_part}
 use Rattle.ds_debug.specs.Memory.{memory_text}
 use Rattle.ds_debug.specs.Registers.{register_text, registers_text}
 use Rattle.ds_debug.specs.Reports.{is_runner, processes_text, thread_words, time_text}
 use Rattle.ds_debug.specs.Sights.{Sight}
 use Rattle.ds_debug.specs.Tables.{table_text}
-use Rattle.ds_debug.specs.Threads.{thread_text, threads_text}
-
--- what can be asked
-unfoldable pub basic_features : List ℕ
-basic_features = codes "PacketSize=1000;ReverseStep+;ReverseContinue+;vContSupported+;QStartNoAckMode+;swbreak+;qXfer:features:read+"
-
--- several processes only where gdb has them
-abbrev pub features_text : Bool → List ℕ
-features_text multiple = basic_features ++ (if multiple then codes ";multiprocess+" else [])
+use Rattle.ds_gdb.specs.Replies.{features_text}
+use Rattle.ds_gdb.specs.Threads.{thread_text, threads_text}
 
 -- there is a process of this number
 abbrev pub is_there : Sight → ℕ → Bool

@@ -9,13 +9,13 @@ use Rattle.ds_debug.specs.Inputs.{IsAt, IsBeginning, RunInputs}
 use Rattle.ds_debug.specs.Places.{Finds, earlier, sought_by}
 use Rattle.ds_debug.specs.Resumes.{asked_of, goal_of}
 use Rattle.ds_debug.specs.Sessions.{SessionState, named_or}
-use Rattle.ds_debug.specs.Stops.{stop_text}
+use Rattle.ds_gdb.specs.Stops.{stop_text}
 use Rattle.ds_debug.specs.Times.{asked_place}
 use Rattle.ds_debug.specs.declared.places.Place.{Place}
 use Rattle.ds_debug.specs.declared.places.Sought.{Sought}
 use Rattle.ds_debug.specs.declared.places.Sought.TheVariants.{LastTurn, LastStop}
-use Rattle.ds_debug.specs.declared.stops.Reason.{Reason}
-use Rattle.ds_debug.specs.declared.stops.Reason.TheVariants.{Begin, Signal}
+use Rattle.ds_gdb.specs.declared.stops.Reason.{Reason}
+use Rattle.ds_gdb.specs.declared.stops.Reason.TheVariants.{Begin, Signal}
 
 -- the process that goes back: the one that is named to go, or else the one that is looked at
 abbrev pub process_going_back : SessionState → ℕ

@@ -1,21 +1,20 @@
 -- What stops a run that goes forward.
-use Rattle.std.specs.Prelude.{ℕ, ◌==◌, ◌&&◌, Bool, true, false, not, nat_lt, is_some, if◌then◌else◌, List, [], ◌∷◌, slice_index_or, drop, Option, Some, None}
-use Rattle.std.specs.List.{list_any}
-use Rattle.ds_word.specs.Word.{minus}
+use Rattle.std.specs.Prelude.{ℕ, ◌&&◌, Bool, not, is_some, if◌then◌else◌, List, [], ◌∷◌, slice_index_or, drop, Option, Some, None}
 use Rattle.ds_packets.specs.declared.packet.Action.{Action}
-use Rattle.ds_packets.specs.declared.packet.Action.TheVariants.{Continue, Step, Range}
 use Rattle.ds_pagemap.specs.Machine.{first}
 use Rattle.ds_refinement.specs.Held.{Held}
 use Rattle.ds_station.specs.Reads.{address_held}
 use Rattle.ds_debug.specs.Answers.{is_there}
 use Rattle.ds_debug.specs.Sights.{sight_held}
 use Rattle.ds_debug.specs.Denials.{signal_told}
+use Rattle.ds_gdb.specs.Points.{is_break}
+use Rattle.ds_gdb.specs.Steps.{is_done}
 use Rattle.ds_debug.specs.Watches.{is_new, value_at}
-use Rattle.ds_debug.specs.declared.goals.Breakpoint.{Breakpoint}
+use Rattle.ds_gdb.specs.declared.points.Breakpoint.{Breakpoint}
 use Rattle.ds_debug.specs.declared.goals.Stop.{Stop}
-use Rattle.ds_debug.specs.declared.stops.Reason.TheVariants.{Rest, Break, Watch, Signal}
+use Rattle.ds_gdb.specs.declared.stops.Reason.TheVariants.{Rest, Break, Watch, Signal}
 use Rattle.ds_debug.specs.declared.watches.Seen.{Seen}
-use Rattle.ds_debug.specs.declared.watches.Watchpoint.{Watchpoint}
+use Rattle.ds_gdb.specs.declared.points.Watchpoint.{Watchpoint}
 
 -- how far each process is to go, by its number, and the breakpoints
 pub record Aim : Type 0 where
@@ -35,16 +34,6 @@ goal_with actions breakpoints watchpoints = record { aim = record { actions = ac
 abbrev pub wanted_action : List (Option Action) → Held → ℕ → Option Action
 wanted_action actions h p = if is_there (sight_held h) p then slice_index_or actions p None else None
 
--- an address lies from the first on, and before the second, in 32 bits
-abbrev pub is_within : ℕ → ℕ → ℕ → Bool
-is_within from to pc = nat_lt (minus pc from) (minus to from)
-
--- a process has gone as far as it was to go, when its unit is done
-abbrev pub is_done : Action → ℕ → Bool
-is_done Continue pc = false
-is_done Step pc = true
-is_done (Range from to) pc = not (is_within from to pc)
-
 -- it stops by what it was denied, or where it has gone so far
 abbrev pub stop_by : ℕ → Option ℕ → Bool → Option Stop
 stop_by p (Some signal) done = Some (record { process = p; reason = Signal signal })
@@ -59,10 +48,6 @@ unit_stop_by (Some action) p pc grown = stop_by p (signal_told grown) (is_done a
 abbrev pub unit_stop : Aim → Option ℕ → ℕ → Held → Option Stop
 unit_stop a None logged h = None
 unit_stop a (Some p) logged h = unit_stop_by (wanted_action a.actions h p) p (address_held h p) (drop logged h.kept.log)
-
--- a process has a breakpoint at an address
-abbrev pub is_break : List Breakpoint → ℕ → ℕ → Bool
-is_break breakpoints p pc = list_any (λ b. (b.process == p) && (b.address == pc)) breakpoints
 
 -- what stops the one that runs next
 abbrev pub break_stop : Aim → Option ℕ → Held → Option Stop

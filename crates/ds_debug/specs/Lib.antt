@@ -1,9 +1,3 @@
-pub mod Each
-pub mod Digits
-pub mod Threads
-pub mod Description
-pub mod Stops
-pub mod Outputs
 pub mod Registers
 pub mod Memory
 pub mod Sights
@@ -22,7 +16,6 @@ pub mod Sessions
 pub mod Resumes
 pub mod Backward
 pub mod Answering
-pub mod Streams
 pub mod Serving
 pub mod Rows
 pub mod Inner

@@ -1,5 +1,5 @@
 -- The bytes of memory that a process may load.
-use Rattle.std.specs.Prelude.{codes, ℕ, zero, suc, ◌+◌, ◌*◌, ◌%◌, nat_lt, if◌then◌else◌, List, [], ◌∷◌, Option, Some, None}
+use Rattle.std.specs.Prelude.{ℕ, zero, suc, ◌+◌, ◌*◌, ◌%◌, List, [], ◌∷◌, Option, Some, None}
 use Rattle.ds_word.specs.Word.{bits}
 use Rattle.ds_word.specs.Bytes.{word_at}
 use Rattle.ds_isa.specs.declared.instr.Size.TheVariants.{Byte}
@@ -8,7 +8,7 @@ use Rattle.ds_policy.specs.declared.access.Verdict.{Verdict}
 use Rattle.ds_policy.specs.declared.access.Verdict.TheVariants.{Allowed, Denied}
 use Rattle.ds_policy.specs.Pages.{Pages, decide, bytes_of}
 use Rattle.ds_policy.specs.Grants.{PageState}
-use Rattle.ds_packets.specs.Framing.{hex_text}
+use Rattle.ds_gdb.specs.Replies.{bytes_text, few}
 
 -- the byte of a word that has this place
 abbrev pub byte_of : ℕ → ℕ → ℕ
@@ -32,15 +32,6 @@ before_others (Some b) rest = b ∷ rest
 unfoldable pub bytes_readable_from : PageState → ℕ → ℕ → ℕ → List ℕ
 bytes_readable_from s p address zero = []
 bytes_readable_from s p address (suc n) = before_others (byte_read s p address) (bytes_readable_from s p (address + 1) n)
-
--- at most 2,048 are told
-abbrev pub few : ℕ → ℕ
-few n = if nat_lt n 2048 then n else 2048
-
--- bytes, or the error where there is none
-abbrev pub bytes_text : List ℕ → List ℕ
-bytes_text [] = codes "E14"
-bytes_text (b ∷ bytes) = hex_text (b ∷ bytes)
 
 -- memory from an address on
 abbrev pub memory_text : PageState → ℕ → ℕ → ℕ → List ℕ

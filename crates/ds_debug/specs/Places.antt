@@ -14,7 +14,7 @@ use Rattle.ds_debug.specs.declared.places.Place.{Place}
 use Rattle.ds_debug.specs.declared.places.Sought.{Sought}
 use Rattle.ds_debug.specs.declared.places.Sought.TheVariants.{LastTurn, LastStop}
 use Rattle.ds_debug.specs.declared.watches.Seen.{Seen}
-use Rattle.ds_debug.specs.declared.stops.Reason.TheVariants.{Rest}
+use Rattle.ds_gdb.specs.declared.stops.Reason.TheVariants.{Rest}
 
 -- the earlier of two times
 abbrev pub earlier : ℕ → ℕ → ℕ

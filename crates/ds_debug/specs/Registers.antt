@@ -1,9 +1,9 @@
 -- The registers of a process as gdb is told of them.
-use Rattle.std.specs.Prelude.{codes, ℕ, ◌==◌, ◌||◌, nat_lt, if◌then◌else◌, List, slice_index, Option, Some, None}
+use Rattle.std.specs.Prelude.{ℕ, ◌==◌, ◌||◌, nat_lt, if◌then◌else◌, List, slice_index, Option, Some, None}
 use Rattle.ds_refinement.specs.Held.{Held}
 use Rattle.ds_station.specs.Reads.{address_held, general_held, hi_held, lo_held}
-use Rattle.ds_debug.specs.Each.{each}
-use Rattle.ds_debug.specs.Digits.{low_first_text}
+use Rattle.ds_gdb.specs.Each.{each}
+use Rattle.ds_gdb.specs.Digits.{word_or_none}
 use Rattle.ds_debug.specs.declared.registers.Registers.{Registers}
 
 -- those that a station shows
@@ -19,11 +19,6 @@ gdb_register r n =
     else if n == 34 then Some r.hi
     else if n == 37 then Some r.pc
     else None
-
--- a word, or a sign for one that is not told
-abbrev pub word_or_none : Option ℕ → List ℕ
-word_or_none None = codes "xxxxxxxx"
-word_or_none (Some w) = low_first_text w
 
 -- a register by its number
 abbrev pub register_text : Registers → ℕ → List ℕ

@@ -4,7 +4,8 @@ use Rattle.ds_text.specs.Digits.{hex8}
 use Rattle.ds_procs.specs.declared.process.Standing.{Standing}
 use Rattle.ds_procs.specs.declared.process.Standing.TheVariants.{Ready, Waiting, Parked, Ended}
 use Rattle.ds_pagemap.specs.Boundary.{is_first}
-use Rattle.ds_debug.specs.Each.{each}
+use Rattle.ds_gdb.specs.Each.{each}
+use Rattle.ds_gdb.specs.Replies.{time_words}
 use Rattle.ds_debug.specs.Sights.{Sight}
 
 -- how a process stands
@@ -40,4 +41,4 @@ is_going n s = nat_lt s.time n && is_some s.unended
 
 -- how far a run for n has come
 abbrev pub time_text : ℕ → Sight → List ℕ
-time_text n s = codes "time " ++ decimal s.time ++ codes " of " ++ decimal n ++ (if is_going n s then codes ", goes on\n" else codes ", is over\n")
+time_text n s = time_words s.time n (is_going n s)

@@ -11,14 +11,14 @@ use Rattle.ds_debug.specs.Forward.{GoesForward}
 use Rattle.ds_debug.specs.Reports.{is_going}
 use Rattle.ds_debug.specs.Sights.{sight_held}
 use Rattle.ds_debug.specs.Goals.{Goal, goal_with}
-use Rattle.ds_debug.specs.Outputs.{outputs_text}
+use Rattle.ds_gdb.specs.Outputs.{outputs_text}
 use Rattle.ds_debug.specs.Sessions.{SessionState}
-use Rattle.ds_debug.specs.Stops.{stop_text}
+use Rattle.ds_gdb.specs.Stops.{stop_text}
 use Rattle.ds_debug.specs.Times.{still_asked, bound_by}
 use Rattle.ds_debug.specs.declared.goals.Stop.{Stop}
 use Rattle.ds_debug.specs.declared.grown.Lengths.{Lengths}
-use Rattle.ds_debug.specs.declared.stops.Reason.{Reason}
-use Rattle.ds_debug.specs.declared.stops.Reason.TheVariants.{Rest, End}
+use Rattle.ds_gdb.specs.declared.stops.Reason.{Reason}
+use Rattle.ds_gdb.specs.declared.stops.Reason.TheVariants.{Rest, End}
 
 -- how much the consoles and the log have
 abbrev pub lengths_of : Held → Lengths

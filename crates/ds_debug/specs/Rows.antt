@@ -1,34 +1,26 @@
 -- Worked rows of what a debugger is answered.
-use Rattle.std.specs.Prelude.{codes, ◌≡◌, true, false, [], ◌∷◌, Some, None, Ok, Err, refl}
+use Rattle.std.specs.Prelude.{codes, ◌≡◌, true, false, [], Some, None, refl}
 use Rattle.std.specs.Fmt.{digits}
 use Rattle.ds_isa.specs.Registers.{zero_registers}
 use Rattle.ds_text.specs.Digits.{hex4, hex8}
 use Rattle.ds_packets.specs.Framing.{hex_text}
-use Rattle.ds_packets.specs.Scanning.{start}
-use Rattle.ds_packets.specs.Scans.{Half}
-use Rattle.ds_packets.specs.Streams.{all_came}
-use Rattle.ds_packets.specs.declared.packet.Packet.TheVariants.{Supported, NoAcknowledgements, FirstThreads, ThreadInfo, Current, Alive, Register, Memory, End}
+use Rattle.ds_packets.specs.declared.packet.Packet.TheVariants.{FirstThreads, ThreadInfo, Current, Alive, Register, Memory, End}
 use Rattle.ds_packets.specs.declared.packet.Report.TheVariants.{Time, Processes}
 use Rattle.ds_packets.specs.declared.packet.Who.TheVariants as who
-use Rattle.ds_packets.specs.declared.scan.PacketFault.TheVariants.{Sum}
 use Rattle.ds_procs.specs.declared.process.Standing.TheVariants.{Ready}
 use Rattle.ds_refinement.specs.Held.{Held, no_memory}
-use Rattle.ds_debug.specs.Answers.{answer_text, basic_features, run_report_text}
+use Rattle.ds_debug.specs.Answers.{answer_text, run_report_text}
 use Rattle.ds_debug.specs.Backward.{back_reason, back_time}
-use Rattle.ds_debug.specs.Each.{each}
+use Rattle.ds_gdb.specs.Each.{each}
 use Rattle.ds_debug.specs.Exits.{is_syscall}
 use Rattle.ds_debug.specs.Goals.{Aim, watch_stop}
 use Rattle.ds_debug.specs.Memory.{bytes_readable_from}
 use Rattle.ds_debug.specs.Places.{place_after}
 use Rattle.ds_debug.specs.Resumes.{came_reason}
-use Rattle.ds_debug.specs.Sessions.{watch_text, with_watch, without_watch}
 use Rattle.ds_debug.specs.Sights.{Sight}
-use Rattle.ds_debug.specs.Stops.{stop_text}
-use Rattle.ds_debug.specs.Streams.{acknowledges_after, ends_session, mark_text, scan_through}
 use Rattle.ds_debug.specs.declared.places.Sought.TheVariants.{LastTurn, LastStop}
 use Rattle.ds_debug.specs.Watches.{is_new}
-use Rattle.ds_debug.specs.declared.stops.Reason.TheVariants as reason
-use Rattle.ds_debug.specs.declared.watches.Watchpoint.{Watchpoint}
+use Rattle.ds_gdb.specs.declared.stops.Reason.TheVariants as reason
 
 -- two processes at 00400000, of which the second runs, at time 7
 abbrev shown : Sight
@@ -43,10 +35,6 @@ shown = record {
   consoles = [];
   log = [];
 }
-
--- process 1 watches a word
-abbrev watched : Watchpoint
-watched = record { process = 1; address = 0x410000; length = 4 }
 
 -- a process by its name, and all of them
 pub the_process_that_is_looked_at : answer_text shown 1 Current ≡ codes "QCp1.1"
@@ -89,32 +77,6 @@ pub each_process_has_a_line : run_report_text 9 shown Processes ≡ codes "1 rea
 unfolding each digits hex4 hex8
 each_process_has_a_line = refl
 
--- gdb may go back
-pub what_gdb_may_ask : answer_text shown 1 (Supported false) ≡ codes "PacketSize=1000;ReverseStep+;ReverseContinue+;vContSupported+;QStartNoAckMode+;swbreak+;qXfer:features:read+"
-unfolding basic_features
-what_gdb_may_ask = refl
-
--- a denial, a breakpoint, and both ends of a run
-pub a_denial_is_a_signal : stop_text 2 (reason.Signal 11) ≡ codes "T0bthread:p2.1;"
-unfolding stop_text
-a_denial_is_a_signal = refl
-
-pub a_breakpoint_is_told : stop_text 100 reason.Break ≡ codes "T05thread:p64.1;swbreak:;"
-unfolding stop_text
-a_breakpoint_is_told = refl
-
-pub a_watch_is_told : stop_text 1 (reason.Watch 0x410000) ≡ codes "T05thread:p1.1;watch:00410000;"
-unfolding stop_text hex4 hex8
-a_watch_is_told = refl
-
-pub the_beginning_is_told : stop_text 1 reason.Begin ≡ codes "T05thread:p1.1;replaylog:begin;"
-unfolding stop_text
-the_beginning_is_told = refl
-
-pub the_end_is_told : stop_text 1 reason.End ≡ codes "T05thread:p1.1;replaylog:end;"
-unfolding stop_text
-the_end_is_told = refl
-
 -- a call, and what is none
 pub a_word_that_calls : is_syscall (Some 12) ≡ true
 a_word_that_calls = refl
@@ -145,19 +107,6 @@ a_byte_that_changes = refl
 pub a_byte_that_stays : is_new (Some 18) (Some 18) ≡ false
 a_byte_that_stays = refl
 
--- a watch is set once, and at most 64 bytes long
-pub a_watch_that_is_there : with_watch (watched ∷ []) watched ≡ watched ∷ []
-a_watch_that_is_there = refl
-
-pub a_watch_that_is_too_long : watch_text [] (record watched { length = 65 }) ≡ codes "E16"
-a_watch_that_is_too_long = refl
-
-pub a_watch_is_taken_away : without_watch (watched ∷ []) watched ≡ []
-a_watch_is_taken_away = refl
-
-pub that_of_another_process_stays : without_watch (watched ∷ []) (record watched { process = 2 }) ≡ watched ∷ []
-that_of_another_process_stays = refl
-
 -- a step back comes to where the last turn of the process began
 pub a_turn_of_the_process : (a : Aim) (h : Held) → place_after (LastTurn 1) a 9 (record { time = 4; runner = Some 1; logged = 0 }) [] h ≡ Some (record { time = 4; stop = record { process = 1; reason = reason.Rest } })
 a_turn_of_the_process a h = refl
@@ -177,29 +126,3 @@ a_process_without_a_turn_is_interrupted = refl
 
 pub nothing_is_before_the_beginning : back_reason (LastTurn 2) 0 None ≡ reason.Begin
 nothing_is_before_the_beginning = refl
-
--- an acknowledgement and an interrupt of gdb's are passed over, with what else stands between packets
-pub what_stands_between_packets : all_came start (43 ∷ 3 ∷ codes "$?#3f") ≡ Ok (codes "?") ∷ []
-what_stands_between_packets = refl
-
--- the sum is 3f
-pub a_wrong_sum : all_came start (codes "$?#3e") ≡ Err Sum ∷ []
-a_wrong_sum = refl
-
--- of a packet that is not whole nothing is said
-pub a_packet_that_is_cut : scan_through start (codes "$?#3") ≡ Half (codes "?") 51
-a_packet_that_is_cut = refl
-
-pub a_packet_in_two_chunks : all_came (scan_through start (codes "$?#3")) (codes "f$g#67") ≡ Ok (codes "?") ∷ Ok (codes "g") ∷ []
-a_packet_in_two_chunks = refl
-
--- marks, until gdb asks for silence
-pub a_packet_is_acknowledged : mark_text true 43 ≡ codes "+"
-a_packet_is_acknowledged = refl
-
-pub silence_is_kept : mark_text (acknowledges_after NoAcknowledgements true) 43 ≡ []
-silence_is_kept = refl
-
--- k ends the session
-pub the_session_ends : ends_session End ≡ true
-the_session_ends = refl

@@ -5,7 +5,7 @@ use Rattle.ds_policy.specs.declared.grant.Entry.{Entry}
 use Rattle.ds_policy.specs.declared.grant.Grant.{Grant}
 use Rattle.ds_policy.specs.Words.{right_word}
 use Rattle.ds_policy.specs.Pages.{Table, entries_of}
-use Rattle.ds_debug.specs.Each.{each}
+use Rattle.ds_gdb.specs.Each.{each}
 use Rattle.ds_debug.specs.Sights.{Sight}
 
 -- a page by its number, where there is one

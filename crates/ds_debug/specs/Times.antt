@@ -3,7 +3,7 @@ use Rattle.std.specs.Prelude.{ℕ, ◌&&◌, ◌||◌, Bool, true, nat_le, nat_l
 use Rattle.ds_debug.specs.declared.places.Place.{Place}
 use Rattle.ds_debug.specs.declared.places.Sought.{Sought}
 use Rattle.ds_debug.specs.declared.places.Sought.TheVariants.{LastTurn, LastStop}
-use Rattle.ds_debug.specs.declared.stops.Reason.TheVariants.{Rest}
+use Rattle.ds_gdb.specs.declared.stops.Reason.TheVariants.{Rest}
 
 -- up to when a run goes on: to the time that is asked for, where it lies ahead and before the end
 abbrev pub bound_by : Option ℕ → ℕ → ℕ → ℕ

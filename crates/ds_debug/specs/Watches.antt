@@ -6,7 +6,7 @@ use Rattle.ds_debug.specs.Answers.{is_there}
 use Rattle.ds_debug.specs.Memory.{byte_read}
 use Rattle.ds_debug.specs.Sights.{sight_held}
 use Rattle.ds_debug.specs.declared.watches.Seen.{Seen}
-use Rattle.ds_debug.specs.declared.watches.Watchpoint.{Watchpoint}
+use Rattle.ds_gdb.specs.declared.points.Watchpoint.{Watchpoint}
 
 -- the byte of a watch after so many others, where its process may load it; one that it may not load has no value
 abbrev pub value_at : Held → Watchpoint → ℕ → Option ℕ

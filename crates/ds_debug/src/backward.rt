@@ -5,10 +5,9 @@ ghost use Rattle.ds_debug.specs.Backward.{back_process, back_reason, back_time, 
 ghost use Rattle.ds_debug.specs.Goals.{goal_with};
 ghost use Rattle.ds_debug.specs.Places.{Finds};
 
-use crate::goals::Breakpoint;
 use crate::places::{Place, Sought, began_at, or_else, place_after};
-use crate::stops::Reason;
-use crate::watches::{Watchpoint, all_seen};
+use crate::watches::all_seen;
+use ds_gdb::{Breakpoint, Reason, Watchpoint};
 use ds_packets::Action;
 use ds_station::{Fault, Station};
 use ds_tlb::Lookaside;

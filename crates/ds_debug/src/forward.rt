@@ -1,16 +1,16 @@
 //! A run that goes forward, turn by turn, to where something stops.
-ghost use Rattle.std.specs.Prelude.{◌≡◌, ◌≤◌, IfErr, IfOk, IfSome, None, OnErr, OnOk, false};
+ghost use Rattle.std.specs.Prelude.{◌≡◌, ◌≤◌, IfErr, IfOk, IfSome, None, OnOk, false};
 ghost use Rattle.ds_refinement.specs.Real.{RealPath};
 ghost use Rattle.ds_refinement.specs.Inner.Runs.{RunsWithin};
-ghost use Rattle.ds_refinement.specs.Inner.Stands.{IsSound};
 ghost use Rattle.ds_station.specs.Inner.Faults.{IsNewFault};
 ghost use Rattle.ds_debug.specs.Forward.{GoesForward};
 ghost use Rattle.ds_debug.specs.Inner.Forward.{IsShort};
 ghost use Rattle.ds_debug.specs.Goals.{goal_with};
 
 use crate::exits::exits_next;
-use crate::goals::{Breakpoint, Stop, stop_after};
-use crate::watches::{Watchpoint, all_seen};
+use crate::goals::{Stop, stop_after};
+use crate::watches::all_seen;
+use ds_gdb::{Breakpoint, Watchpoint};
 use ds_packets::Action;
 use ds_station::{Fault, Station};
 use ds_tlb::Lookaside;

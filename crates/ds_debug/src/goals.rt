@@ -1,25 +1,16 @@
 //! What stops a run that goes forward.
-ghost use Rattle.std.specs.Prelude.{◌≡◌, ◌<◌, ◌≤◌, ◌==◌, ◌&&◌, drop, length, slice_index_or, true, IfSome, IsSome, None};
-ghost use Rattle.std.specs.List.{list_any};
+ghost use Rattle.std.specs.Prelude.{◌≡◌, ◌<◌, ◌≤◌, ◌&&◌, drop, length, true, IfSome, IsSome, None};
 ghost use Rattle.ds_station.specs.Reads.{address_held};
 ghost use Rattle.ds_pagemap.specs.Machine.{first};
-ghost use Rattle.ds_debug.specs.Goals.{wanted_action, break_stop, first_changed, has_changed, is_break, is_done, is_within, stop_after, stop_by, turn_stop, unit_stop, unit_stop_by, watch_stop};
+ghost use Rattle.ds_debug.specs.Goals.{wanted_action, break_stop, first_changed, has_changed, stop_after, stop_by, turn_stop, unit_stop, unit_stop_by, watch_stop};
 
 use crate::denials::signal_told;
 use crate::look::is_there;
-use crate::stops::Reason;
-use crate::watches::{Seen, Watchpoint, is_new, value_at};
+use crate::watches::{Seen, is_new, value_at};
+use ds_gdb::{Breakpoint, Reason, Watchpoint, is_break, is_done};
 use ds_packets::Action;
 use ds_station::Station;
 use ds_tlb::Lookaside;
-use ds_word::wrapping_difference;
-
-/// A place at which a process stops.
-#[derive(Clone, Copy, Debug, Default, PartialEq, Eq)]
-pub struct Breakpoint {
-    pub process: u32,
-    pub address: u32,
-}
 
 /// A process that has stopped, and why.
 #[derive(Clone, Copy, Debug, PartialEq, Eq)]
@@ -42,24 +33,6 @@ fn wanted_action<L: Lookaside>(
         actions.get(process as usize).copied().unwrap_or(None)
     } else {
         None
-    }
-}
-
-/// Whether an address lies from the first on, and before the second, in 32 bits.
-fn is_within(from: u32, to: u32, address: u32) -> bool
-    ensures { result ≡ is_within from to address }
-{
-    wrapping_difference(address, from) < wrapping_difference(to, from)
-}
-
-/// Whether a process has gone as far as it was to go, when its unit is done and it stands here.
-fn is_done(action: Action, address: u32) -> bool
-    ensures { result ≡ is_done action address }
-{
-    match action {
-        Action::Continue => false,
-        Action::Step => true,
-        Action::Range { from, to } => !is_within(from, to, address),
     }
 }
 
@@ -120,15 +93,6 @@ fn unit_stop<L: Lookaside>(
     let process = runner?;
     let action = wanted_action(actions, station, process)?;
     stop_of(station, process, action, logged)
-}
-
-/// Whether a process has a breakpoint at an address.
-pub(crate) fn is_break(breakpoints: &[Breakpoint], process: u32, address: u32) -> bool
-    ensures { result ≡ is_break breakpoints.now process address }
-{
-    breakpoints
-        .iter()
-        .any(|b| b.process == process && b.address == address)
 }
 
 /// What stops the process that runs next, if one does.

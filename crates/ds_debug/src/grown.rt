@@ -4,7 +4,7 @@ ghost use Rattle.ds_debug.specs.Resumes.{grown_by, lengths_of, more_text};
 
 use crate::goals::grown;
 use crate::look::console_text;
-use crate::outputs::push_outputs;
+use ds_gdb::push_outputs;
 use ds_station::Station;
 use ds_tlb::Lookaside;
 use std::alloc::{AllocError, Global};

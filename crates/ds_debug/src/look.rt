@@ -1,19 +1,17 @@
 //! Answers to packets that only look.
 ghost use Rattle.std.specs.Prelude.{◌≡◌, ◌<◌, ◌≤◌, ◌++◌, OnOk, codes, length, true};
 ghost use Rattle.ds_packets.specs.Framing.{hex_text};
-ghost use Rattle.ds_debug.specs.Answers.{answer_text, are_there, basic_features, console_text, features_text, info_text, is_there, of_process, run_report_text, seen_text, there_text};
+ghost use Rattle.ds_debug.specs.Answers.{answer_text, are_there, console_text, info_text, is_there, of_process, run_report_text, seen_text, there_text};
 ghost use Rattle.ds_debug.specs.Reports.{is_runner, thread_words};
 ghost use Rattle.ds_debug.specs.Sights.{sight_held};
-ghost use Rattle.ds_debug.specs.Threads.{thread_text};
-ghost use Rattle.ds_debug.specs.Outputs.{outputs_text};
+ghost use Rattle.ds_gdb.specs.Threads.{thread_text};
+ghost use Rattle.ds_gdb.specs.Outputs.{outputs_text};
 
-use crate::description::push_description;
 use crate::memory::push_memory;
-use crate::outputs::push_outputs;
 use crate::registers::{Registers, push_register, push_registers};
 use crate::reports::{push_processes, push_thread_words, push_time};
 use crate::tables::push_table;
-use crate::threads::{push_thread, push_threads};
+use ds_gdb::{push_description, push_features, push_outputs, push_thread, push_threads};
 use ds_packets::{Packet, Report, Who, push_hex};
 use ds_station::Station;
 use ds_tlb::Lookaside;
@@ -35,28 +33,6 @@ pub(crate) fn are_there<L: Lookaside>(station: &Station<L>, who: Who) -> bool
     match who {
         Who::Any | Who::All => true,
         Who::Process(process) => is_there(station, process),
-    }
-}
-
-/// Adds what can be asked in any case.
-#[tactic(auto, unfolding(crate::specs::Answers::basic_features))]
-fn push_basic(text: &mut Vec<u8>) -> Result<(), AllocError>
-    ensures { OnOk result (text.new.items ≡ text.old.items ++ basic_features) }
-{
-    text.extend_from_slice(
-        b"PacketSize=1000;ReverseStep+;ReverseContinue+;vContSupported+;QStartNoAckMode+;swbreak+;qXfer:features:read+",
-    )
-}
-
-/// Adds what can be asked, where gdb has several processes or only one.
-fn push_features(text: &mut Vec<u8>, multiple: bool) -> Result<(), AllocError>
-    ensures { OnOk result (text.new.items ≡ text.old.items ++ features_text multiple) }
-{
-    push_basic(text)?;
-    if multiple {
-        text.extend_from_slice(b";multiprocess+")
-    } else {
-        Ok(())
     }
 }
 

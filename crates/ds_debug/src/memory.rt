@@ -1,19 +1,13 @@
 //! Memory as a process may load it.
 ghost use Rattle.std.specs.Prelude.{◌≡◌, ◌<◌, ◌≤◌, ◌++◌, IfOk, OnOk, length};
-ghost use Rattle.ds_pagemap.specs.Machine.{State};
-ghost use Rattle.ds_refinement.specs.Stands.{Stands};
 ghost use Rattle.ds_station.specs.Reads.{memory_held};
-ghost use Rattle.ds_debug.specs.Memory as memory;
-ghost use Rattle.ds_debug.specs.Memory.{byte_read, bytes_readable_from, bytes_text, memory_text};
+ghost use Rattle.ds_debug.specs.Memory.{byte_read, bytes_readable_from, memory_text};
 
-use ds_packets::push_hex;
+use ds_gdb::{few, push_bytes};
 use ds_station::Station;
 use ds_tlb::Lookaside;
 use ds_word::byte_unsigned;
 use std::alloc::{AllocError, Global};
-
-/// The most bytes that are told at once.
-const MOST_BYTES: u32 = 2048;
 
 /// The byte at an address, where the process may load it.
 #[tactic(auto, using(crate::proofs::Bytes::byte_by_word))]
@@ -55,27 +49,6 @@ fn bytes_readable_from<L: Lookaside>(
         }
     }
     Ok(bytes)
-}
-
-/// So many bytes as are told at once.
-fn few(count: u32) -> u32
-    ensures { result ≡ memory.few count }
-{
-    if count < MOST_BYTES {
-        count
-    } else {
-        MOST_BYTES
-    }
-}
-
-/// Adds bytes, or the error where there is none.
-fn push_bytes(text: &mut Vec<u8>, bytes: &[u8]) -> Result<(), AllocError>
-    ensures { OnOk result (text.new.items ≡ text.old.items ++ bytes_text bytes.now) }
-{
-    match bytes {
-        [] => text.extend_from_slice(b"E14"),
-        _ => push_hex(text, bytes),
-    }
 }
 
 /// Adds the bytes from an address on, up to the first that the process may not load, so many at most,

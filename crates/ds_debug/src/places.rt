@@ -2,10 +2,10 @@
 ghost use Rattle.std.specs.Prelude.{◌≡◌, ◌<◌, ◌≤◌, IfSome};
 ghost use Rattle.ds_debug.specs.Places.{began_at, or_else, place_after, sought_by, stop_place, stop_until, turn_place};
 
-use crate::goals::{Breakpoint, Stop, first_changed, stop_after};
-use crate::stops::Reason;
+use crate::goals::{Stop, first_changed, stop_after};
 use crate::times::earlier;
 use crate::watches::Seen;
+use ds_gdb::{Breakpoint, Reason};
 use ds_packets::Action;
 use ds_station::Station;
 use ds_tlb::Lookaside;

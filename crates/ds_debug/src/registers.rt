@@ -2,10 +2,10 @@
 ghost use Rattle.std.specs.Prelude.{◌≡◌, ◌<◌, ◌≤◌, ◌++◌, OnOk, length};
 ghost use Rattle.ds_pagemap.specs.Machine.{State};
 ghost use Rattle.ds_refinement.specs.Stands.{Stands};
-ghost use Rattle.ds_debug.specs.Registers.{gdb_register, register_text, registers_held, registers_text, word_or_none};
+ghost use Rattle.ds_debug.specs.Registers.{gdb_register, register_text, registers_held, registers_text};
 ghost use Rattle.ds_debug.specs.Inner.Registers.{registers_in};
 
-use crate::digits::push_word;
+use ds_gdb::push_word_or_none;
 use ds_station::Station;
 use ds_tlb::Lookaside;
 use std::alloc::AllocError;
@@ -58,16 +58,6 @@ impl Registers {
         } else {
             None
         }
-    }
-}
-
-/// Adds a word, or a sign for one that is not told.
-fn push_word_or_none(text: &mut Vec<u8>, word: Option<u32>) -> Result<(), AllocError>
-    ensures { OnOk result (text.new.items ≡ text.old.items ++ word_or_none word) }
-{
-    match word {
-        Some(word) => push_word(text, word),
-        None => text.extend_from_slice(b"xxxxxxxx"),
     }
 }
 

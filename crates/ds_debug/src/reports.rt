@@ -1,8 +1,9 @@
 //! What is told in words: how far a run has come, and how each process stands.
-ghost use Rattle.std.specs.Prelude.{◌≡◌, ◌<◌, ◌≤◌, ◌+◌, ◌++◌, OnOk, codes, length};
+ghost use Rattle.std.specs.Prelude.{◌≡◌, ◌<◌, ◌≤◌, ◌+◌, ◌++◌, OnOk, length};
 ghost use Rattle.ds_debug.specs.Reports.{is_going, is_runner, listed_process, process_line, processes_text, standing_text, thread_words, time_text};
 ghost use Rattle.ds_debug.specs.Sights.{sight_held};
 
+use ds_gdb::push_time_words;
 use ds_procs::Standing;
 use ds_station::Station;
 use ds_text::sheet::{push_decimal, push_hex};
@@ -140,14 +141,5 @@ pub(crate) fn push_time<L: Lookaside>(
     ensures { OnOk result (text.new.items ≡ text.old.items
         ++ time_text n (sight_held station.now.held)) }
 {
-    text.extend_from_slice(b"time ")?;
-    push_decimal(text, station.time())?;
-    text.extend_from_slice(b" of ")?;
-    push_decimal(text, n)?;
-    let end: &[u8] = if is_going(station, n) {
-        b", goes on\n"
-    } else {
-        b", is over\n"
-    };
-    text.extend_from_slice(end)
+    push_time_words(text, station.time(), n, is_going(station, n))
 }

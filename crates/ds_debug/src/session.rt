@@ -1,5 +1,5 @@
 //! A debugger's session over a station.
-ghost use Rattle.std.specs.Prelude.{◌≡◌, ◌<◌, ◌≤◌, ◌==◌, ◌&&◌, ◌++◌, [], IfErr, IfOk, IfSome, None, Ok, OnErr, OnOk, Some, codes, false, length, not, position, true};
+ghost use Rattle.std.specs.Prelude.{◌≡◌, ◌<◌, ◌≤◌, ◌&&◌, ◌++◌, [], IfErr, IfOk, IfSome, None, Ok, OnErr, OnOk, Some, codes, false, length, not, true};
 ghost use Rattle.ds_packets.specs.Framing.{frame};
 ghost use Rattle.ds_refinement.specs.Real.{RealPath};
 ghost use Rattle.ds_refinement.specs.Inner.Runs.{RunsWithin};
@@ -7,7 +7,7 @@ ghost use Rattle.ds_station.specs.Inner.Faults.{IsNewFault};
 ghost use Rattle.ds_station.specs.Headline.{Refuses};
 ghost use Rattle.ds_pagemap.specs.Machine.{State};
 ghost use Rattle.ds_refinement.specs.Stands.{Stands};
-ghost use Rattle.ds_debug.specs.Answering.{Answers, AnswersPacket, after_plain, course_by, plain_text, packet_error_text};
+ghost use Rattle.ds_debug.specs.Answering.{Answers, AnswersPacket, after_plain, course_by, plain_text};
 ghost use Rattle.ds_debug.specs.Inner.Answering.{TellsOf, goes_back, is_back};
 ghost use Rattle.ds_debug.specs.Answers.{answer_text, run_report_text};
 ghost use Rattle.ds_debug.specs.Backward.{ComesBack, FindsIn, Returns, ReturnsBy, process_going_back, looked_until};
@@ -16,39 +16,30 @@ ghost use Rattle.ds_debug.specs.Inner.Forward.{IsShort};
 ghost use Rattle.ds_debug.specs.Goals.{goal_with};
 ghost use Rattle.ds_debug.specs.Inputs.{IsBeginning, first_state_of};
 ghost use Rattle.ds_debug.specs.Inner.Inputs.{IsReached, inputs_seen};
-ghost use Rattle.ds_debug.specs.Outputs.{outputs_text};
+ghost use Rattle.ds_gdb.specs.Outputs.{outputs_text};
 ghost use Rattle.ds_debug.specs.Resumes.{Resumes, bound_of, came_process, came_reason, goal_of, may_go};
-ghost use Rattle.ds_debug.specs.Sessions.{after_setting, begun, is_same_watch, is_watch, named_or, setting_text, sight_of, told_first};
+ghost use Rattle.ds_debug.specs.Sessions.{after_setting, begun, named_or, setting_text, sight_of, told_first, watch_of};
 ghost use Rattle.ds_debug.specs.Inner.Sessions.{IsStill};
-ghost use Rattle.ds_debug.specs.Stops.{stop_text};
+ghost use Rattle.ds_gdb.specs.Stops.{stop_text};
 ghost use Rattle.ds_debug.specs.Times.{still_asked};
 
 use crate::actions::actions_by;
 use crate::backward::{back_process, back_reason, back_time, find_last};
 use crate::exits::exits_next;
 use crate::forward::go;
-use crate::goals::{Breakpoint, Stop, is_break};
+use crate::goals::Stop;
 use crate::grown::{lengths_of, push_grown};
 use crate::inputs::{Inputs, station_at, station_at_start};
 use crate::look::{are_there, push_answer, push_report};
 use crate::places::{Place, Sought, sought_by};
 use crate::reports::is_going;
-use crate::stops::{Reason, push_stop};
 use crate::times::{asked_place, bound_by, earlier, still_asked};
-use crate::watches::Watchpoint;
-use arrayvec::ArrayVec;
-use ds_packets::{Action, Packet, Refusal, Report, Who, push_frame};
+use ds_gdb::{Breakpoints, Reason, Target, Watchpoint, Watchpoints, push_refusal, push_stop};
+use ds_packets::{Action, Packet, Report, Who, push_frame};
 use ds_station::{Fault, Station};
 use ds_tlb::Indexed;
 use std::alloc::{AllocError, Global};
 use std::marker::Model;
-
-/// The most breakpoints.
-const MOST_BREAKPOINTS: usize = 64;
-/// The most watches.
-const MOST_WATCHPOINTS: usize = 16;
-/// The most bytes of a watch.
-const MOST_WATCHED: u32 = 64;
 
 /// A session of a debugger over a station, which stands between two turns of a run.
 #[derive(Drop)]
@@ -62,8 +53,8 @@ pub struct Session<'a> {
     process: u32,
     /// Who goes where nobody is named.
     going: Who,
-    breakpoints: ArrayVec<Breakpoint, MOST_BREAKPOINTS>,
-    watchpoints: ArrayVec<Watchpoint, MOST_WATCHPOINTS>,
+    breakpoints: Breakpoints,
+    watchpoints: Watchpoints,
     /// A time at which the run is to stop once, in ticks.
     stop_at: Option<u64>,
     /// Whether the run was cut short.
@@ -83,8 +74,8 @@ impl<'a> Model for Session<'a> {
       limit = s.limit;
       process = s.process;
       going = s.going;
-      breakpoints = s.breakpoints.items;
-      watchpoints = s.watchpoints.items;
+      breakpoints = s.breakpoints;
+      watchpoints = s.watchpoints;
       stop_at = s.stop_at;
       cut = s.cut;
     } };
@@ -95,8 +86,8 @@ impl<'a> Model for Session<'a> {
       limit = s.limit;
       process = s.process;
       going = s.going;
-      breakpoints = s.breakpoints.items;
-      watchpoints = s.watchpoints.items;
+      breakpoints = s.breakpoints;
+      watchpoints = s.watchpoints;
       stop_at = s.stop_at;
       cut = s.cut;
     }) };
@@ -109,53 +100,6 @@ fn named_or(who: Who, process: u32) -> u32
     match who {
         Who::Any | Who::All => process,
         Who::Process(named) => named,
-    }
-}
-
-/// The place of a breakpoint, where it is there.
-fn breakpoint_place(breakpoints: &[Breakpoint], process: u32, address: u32) -> Option<usize>
-    ensures place { result ≡ position
-        (λ b. (b.process == process) && (b.address == address)) breakpoints.now }
-    ensures within { IfSome result (λ place. place < length breakpoints.now) }
-{
-    breakpoints
-        .iter()
-        .position(|b| b.process == process && b.address == address)
-}
-
-/// Whether two watches are the same.
-fn is_same_watch(first: Watchpoint, second: Watchpoint) -> bool
-    ensures { result ≡ is_same_watch first second }
-{
-    second.process == first.process
-        && second.address == first.address
-        && second.length == first.length
-}
-
-/// Whether a watch is there.
-fn is_watch(watchpoints: &[Watchpoint], watchpoint: Watchpoint) -> bool
-    ensures { result ≡ is_watch watchpoints.now watchpoint }
-{
-    watchpoints.iter().any(|w| is_same_watch(watchpoint, *w))
-}
-
-/// The place of a watch, where it is there.
-fn place_of_watch(watchpoints: &[Watchpoint], watchpoint: Watchpoint) -> Option<usize>
-    ensures place { result ≡ position (is_same_watch watchpoint) watchpoints.now }
-    ensures within { IfSome result (λ place. place < length watchpoints.now) }
-{
-    watchpoints
-        .iter()
-        .position(|w| is_same_watch(watchpoint, *w))
-}
-
-/// Adds the error of a packet that is not known, which is empty, or malformed.
-fn push_refusal(out: &mut Vec<u8>, refusal: Refusal) -> Result<(), AllocError>
-    ensures { OnOk result (out.new.items ≡ out.old.items ++ frame (packet_error_text refusal)) }
-{
-    match refusal {
-        Refusal::Unknown => push_frame(out, &[]),
-        Refusal::Malformed => push_frame(out, b"E16"),
     }
 }
 
@@ -201,8 +145,8 @@ impl<'a> Session<'a> {
             limit,
             process: 1,
             going: Who::All,
-            breakpoints: ArrayVec::new(),
-            watchpoints: ArrayVec::new(),
+            breakpoints: Breakpoints::new(),
+            watchpoints: Watchpoints::new(),
             stop_at: None,
             cut: false,
         })
@@ -248,79 +192,14 @@ impl<'a> Session<'a> {
         }
     }
 
-    /// Sets a breakpoint, where it is not there and there is room.
-    fn set_break(&mut self, address: u32) -> &'static [u8]
-        ensures changed { self.new ≡ after_setting self.old (Packet.Break address) }
-        ensures text { result.now
-            ≡ setting_text (sight_of self.old) self.old (Packet.Break address) }
-        ensures still { IsStill self.old self.new }
+    /// The watch of so many bytes of the process that is looked at.
+    fn watch_of(&self, address: u32, length: u32) -> Watchpoint
+        ensures { result ≡ watch_of self.now address length }
     {
-        let process = self.process;
-        if is_break(self.breakpoints.as_slice(), process, address) {
-            b"OK"
-        } else if self.breakpoints.len() < MOST_BREAKPOINTS {
-            self.breakpoints.push(Breakpoint { process, address });
-            b"OK"
-        } else {
-            b"E1C"
-        }
-    }
-
-    /// Takes a breakpoint away, where it is there.
-    fn drop_break(&mut self, address: u32)
-        ensures changed { self.new ≡ after_setting self.old (Packet.Unbreak address) }
-        ensures still { IsStill self.old self.new }
-    {
-        let place = breakpoint_place(self.breakpoints.as_slice(), self.process, address);
-        match place {
-            Some(place) => {
-                let _ = self.breakpoints.remove(place);
-            }
-            None => {}
-        }
-    }
-
-    /// Sets a watch, where it is not too long and not there and there is room.
-    fn set_watch(&mut self, address: u32, length: u32) -> &'static [u8]
-        ensures changed { self.new ≡ after_setting self.old (Packet.Watch address length) }
-        ensures text { result.now
-            ≡ setting_text (sight_of self.old) self.old (Packet.Watch address length) }
-        ensures still { IsStill self.old self.new }
-    {
-        let process = self.process;
-        let watchpoint = Watchpoint {
-            process,
+        Watchpoint {
+            process: self.process,
             address,
             length,
-        };
-        if MOST_WATCHED < length {
-            b"E16"
-        } else if is_watch(self.watchpoints.as_slice(), watchpoint) {
-            b"OK"
-        } else if self.watchpoints.len() < MOST_WATCHPOINTS {
-            self.watchpoints.push(watchpoint);
-            b"OK"
-        } else {
-            b"E1C"
-        }
-    }
-
-    /// Takes a watch away, where it is there.
-    fn drop_watch(&mut self, address: u32, length: u32)
-        ensures changed { self.new ≡ after_setting self.old (Packet.Unwatch address length) }
-        ensures still { IsStill self.old self.new }
-    {
-        let process = self.process;
-        let watchpoint = Watchpoint {
-            process,
-            address,
-            length,
-        };
-        match place_of_watch(self.watchpoints.as_slice(), watchpoint) {
-            Some(place) => {
-                let _ = self.watchpoints.remove(place);
-            }
-            None => {}
         }
     }
 
@@ -333,14 +212,18 @@ impl<'a> Session<'a> {
         match packet {
             Packet::Look(who) => self.look_at(who),
             Packet::Go(who) => self.let_go(who),
-            Packet::Break(address) => self.set_break(address),
+            Packet::Break(address) => self.breakpoints.set(self.process, address),
             Packet::Unbreak(address) => {
-                self.drop_break(address);
+                self.breakpoints.remove(self.process, address);
                 b"OK"
             }
-            Packet::Watch { address, length } => self.set_watch(address, length),
+            Packet::Watch { address, length } => {
+                let watchpoint = self.watch_of(address, length);
+                self.watchpoints.set(watchpoint)
+            }
             Packet::Unwatch { address, length } => {
-                self.drop_watch(address, length);
+                let watchpoint = self.watch_of(address, length);
+                self.watchpoints.remove(watchpoint);
                 b"OK"
             }
             Packet::StopAt(time) => {
@@ -717,6 +600,19 @@ impl<'a> Session<'a> {
                 push_refusal(out, refusal)?;
                 Ok(())
             }
+        }
+    }
+}
+
+impl<'a> Target for Session<'a> {
+    ghost use Rattle.ds_debug.specs.Serving.{Replies};
+
+    ghost answers = { Replies };
+
+    fn reply(&mut self, alloc: Global, words: &[u8], out: &mut Vec<u8>) -> Result<(), AllocError> {
+        match self.answer(alloc, words, out) {
+            Ok(()) => Ok(()),
+            Err(_) => Err(AllocError),
         }
     }
 }

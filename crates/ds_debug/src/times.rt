@@ -5,7 +5,7 @@ ghost use Rattle.ds_debug.specs.Times.{still_asked, asked_place, bound_by, is_be
 
 use crate::goals::Stop;
 use crate::places::{Place, Sought};
-use crate::stops::Reason;
+use ds_gdb::Reason;
 
 /// The earlier of two times.
 pub(crate) fn earlier(time: u64, limit: u64) -> u64

@@ -4,17 +4,10 @@ ghost use Rattle.ds_debug.specs.Watches.{all_seen, is_new, seen_at, seen_of, val
 
 use crate::look::is_there;
 use crate::memory::byte_read;
+use ds_gdb::Watchpoint;
 use ds_station::Station;
 use ds_tlb::Lookaside;
 use std::alloc::{AllocError, Global};
-
-/// So many bytes of a process that are watched, from an address on.
-#[derive(Clone, Copy, Debug, Default, PartialEq, Eq)]
-pub struct Watchpoint {
-    pub process: u32,
-    pub address: u32,
-    pub length: u32,
-}
 
 /// A byte of a watch, as it was seen.
 #[derive(Clone, Copy, Debug, PartialEq, Eq)]

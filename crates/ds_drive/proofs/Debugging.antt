@@ -12,11 +12,12 @@ use Rattle.ds_station.specs.declared.fault.Fault.{Fault}
 use Rattle.ds_station.specs.declared.fault.Fault.TheVariants as fault
 use Rattle.ds_station.proofs.Headlines.{keeps_same}
 use Rattle.ds_debug.specs.Inputs.{RunInputs}
-use Rattle.ds_debug.specs.Serving.{Debugs, DebugsPart, IsLate, Pipes, pipes}
+use Rattle.ds_debug.specs.Serving.{Debugs, DebugsPart, IsLate}
+use Rattle.ds_gdb.specs.Serving.{Pipes, pipes}
 use Rattle.ds_debug.specs.Inner.Serving.{DebugEndsBy}
-use Rattle.ds_debug.specs.Streams.{mark_text}
-use Rattle.ds_debug.specs.declared.serving.Ending.{Ending}
-use Rattle.ds_debug.specs.declared.serving.Ending.TheVariants.{Over, Unread}
+use Rattle.ds_gdb.specs.Streams.{mark_text}
+use Rattle.ds_gdb.specs.declared.serving.Ending.{Ending}
+use Rattle.ds_gdb.specs.declared.serving.Ending.TheVariants.{Over, Unread}
 use Rattle.ds_words.specs.declared.words.Request.{Request}
 use Rattle.ds_words.specs.Words.{AsksForDebug}
 use Rattle.ds_drive.specs.declared.failure.Failure.{Failure}

@@ -4,9 +4,10 @@ use Rattle.std.specs.Io.KnownBytes.{Keeps}
 use Rattle.ds_policy.specs.Value.{PolicyValue}
 use Rattle.ds_pagemap.specs.Inputs.{Sources}
 use Rattle.ds_debug.specs.Inputs.{RunInputs}
-use Rattle.ds_debug.specs.Serving.{Debugs, DebugsPart, IsLate, Pipes, pipes}
-use Rattle.ds_debug.specs.declared.serving.Ending.{Ending}
-use Rattle.ds_debug.specs.declared.serving.Ending.TheVariants.{Unread}
+use Rattle.ds_debug.specs.Serving.{Debugs, DebugsPart, IsLate}
+use Rattle.ds_gdb.specs.Serving.{Pipes, pipes}
+use Rattle.ds_gdb.specs.declared.serving.Ending.{Ending}
+use Rattle.ds_gdb.specs.declared.serving.Ending.TheVariants.{Unread}
 use Rattle.ds_station.specs.Headline.{Refuses}
 use Rattle.ds_words.specs.declared.words.Request.{Request}
 use Rattle.ds_drive.specs.declared.failure.Failure.{Failure}

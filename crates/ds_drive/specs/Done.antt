@@ -25,8 +25,8 @@ use Rattle.ds_drive.specs.Told.{below_text, failure_line, listed_faults}
 use Rattle.ds_drive.specs.Listening.{Listener, IsToldText, TellsSome}
 use Rattle.ds_drive.specs.Statuses.{fault_status}
 use Rattle.ds_drive.specs.BareRuns.{RunsBare, CutsBare, BareFailsBy, HasBareFaults}
-use Rattle.ds_debug.specs.Serving.{pipes}
-use Rattle.ds_debug.specs.declared.serving.Ending.TheVariants.{Over}
+use Rattle.ds_gdb.specs.Serving.{pipes}
+use Rattle.ds_gdb.specs.declared.serving.Ending.TheVariants.{Over}
 use Rattle.ds_drive.specs.Debugged.{CutsDebug, DebugStopsBy, HasDebugged, IsUnheard}
 use Rattle.ds_drive.specs.ExplainedLogs.{CutsExplained, ExplainStopsBy, HasExplained}
 use Rattle.ds_drive.specs.Checked.{ExplainsCheck, CutsExplanation, ChecksBy, HasNotes}

@@ -1,6 +1,6 @@
 //! A session with a debugger over a run of files.
 ghost use Rattle.std.specs.Prelude.{◌≡◌, ◌∷◌, ℕ, List, [], IfErr, IfOk, OnOk, codes};
-ghost use Rattle.ds_debug.specs.Serving.{pipes};
+ghost use Rattle.ds_gdb.specs.Serving.{pipes};
 ghost use Rattle.ds_drive.specs.Debugged.{DebugStopsBy, HasDebugged};
 ghost use Rattle.ds_drive.specs.Listening.{IsToldText, listener};
 ghost use Rattle.ds_drive.specs.Reading.{ReadsRunUntil};
@@ -10,7 +10,8 @@ use crate::failure::Failure;
 use crate::files::Files;
 use crate::run::{lent, read_inputs};
 use crate::status::RUN_FAILED;
-use ds_debug::{Ending, Inputs, debug};
+use ds_debug::{Inputs, debug};
+use ds_gdb::Ending;
 use ds_log::{Output, send};
 use ds_words::Request;
 use std::alloc::Global;

@@ -23,7 +23,7 @@ use crate::run::run_request;
 use crate::status::{DONE, WORDS_REFUSED};
 use crate::told::{tell, tell_refused};
 use crate::trace::trace_request;
-use ds_debug::Ending;
+use ds_gdb::Ending;
 use ds_log::{Output, send};
 use ds_station::Fault;
 use ds_words::{Untaken, Wish, wish_of};

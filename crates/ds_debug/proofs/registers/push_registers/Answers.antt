@@ -1,5 +1,5 @@
 use Rattle.ds_debug.specs.Registers.{register_text}
-use Rattle.ds_debug.proofs.Pieces.{each_end, each_more, each_start}
+use Rattle.ds_gdb.proofs.Pieces.{each_end, each_more, each_start}
 use Rattle.ds_debug.proofs.registers.push_registers.Goals as goal
 
 pub loop-number-init : goal.loop-number-init

@@ -1,5 +1,5 @@
 use Rattle.std.proofs.Common.{◌≡◌, ◌-◌, ◌++◌}
-use Rattle.ds_debug.specs.Each.{each}
+use Rattle.ds_gdb.specs.Each.{each}
 use Rattle.ds_debug.specs.Registers.{register_text, registers_text}
 use Rattle.ds_debug.proofs.registers.push_registers.Given as goal
 

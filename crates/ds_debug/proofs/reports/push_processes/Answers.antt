@@ -1,7 +1,7 @@
 use Rattle.std.proofs.Common.{length, arith}
 use Rattle.ds_debug.specs.Sights.{sight_held}
 use Rattle.ds_debug.specs.Reports.{listed_process}
-use Rattle.ds_debug.proofs.Pieces.{each_end, each_more, each_start}
+use Rattle.ds_gdb.proofs.Pieces.{each_end, each_more, each_start}
 use Rattle.ds_debug.proofs.reports.push_processes.Goals as goal
 
 pub loop-index-init : goal.loop-index-init

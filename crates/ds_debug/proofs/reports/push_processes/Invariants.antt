@@ -1,5 +1,5 @@
 use Rattle.std.proofs.Common.{◌≡◌, ◌-◌, ◌++◌, length}
-use Rattle.ds_debug.specs.Each.{each}
+use Rattle.ds_gdb.specs.Each.{each}
 use Rattle.ds_debug.specs.Sights.{sight_held}
 use Rattle.ds_debug.specs.Reports.{listed_process, processes_text}
 use Rattle.ds_debug.proofs.reports.push_processes.Given as goal

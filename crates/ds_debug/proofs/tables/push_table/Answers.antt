@@ -1,7 +1,7 @@
 use Rattle.std.proofs.Common.{length, arith}
 use Rattle.ds_station.specs.Reads.{memory_held}
 use Rattle.ds_debug.specs.Tables.{entries_text}
-use Rattle.ds_debug.proofs.Pieces.{each_end, each_more, each_start}
+use Rattle.ds_gdb.proofs.Pieces.{each_end, each_more, each_start}
 use Rattle.ds_debug.proofs.tables.push_table.Goals as goal
 
 pub loop-index-init : goal.loop-index-init

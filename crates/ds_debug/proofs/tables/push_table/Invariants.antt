@@ -1,6 +1,6 @@
 use Rattle.std.proofs.Common.{◌≡◌, ◌-◌, ◌++◌, length}
 use Rattle.ds_station.specs.Reads.{memory_held}
-use Rattle.ds_debug.specs.Each.{each}
+use Rattle.ds_gdb.specs.Each.{each}
 use Rattle.ds_debug.specs.Sights.{sight_held}
 use Rattle.ds_debug.specs.Tables.{entries_text, table_text}
 use Rattle.ds_debug.proofs.tables.push_table.Given as goal

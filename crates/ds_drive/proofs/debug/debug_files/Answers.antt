@@ -1,6 +1,7 @@
 use Rattle.std.proofs.Common.{◌∙◌, map, ap}
 use Rattle.ds_station.specs.Headline.{sources_seen}
-use Rattle.ds_debug.specs.Serving.{Debugs, pipes}
+use Rattle.ds_debug.specs.Serving.{Debugs}
+use Rattle.ds_gdb.specs.Serving.{pipes}
 use Rattle.ds_drive.specs.declared.run.SourceText.{SourceText}
 use Rattle.ds_drive.proofs.Debugging.{debug_ends, of_run_inputs}
 use Rattle.ds_drive.proofs.debug.debug_files.Goals as goal

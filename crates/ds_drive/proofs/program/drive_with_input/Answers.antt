@@ -1,8 +1,8 @@
 use Rattle.std.proofs.Common.{◌≡◌, arith, codes, refl, subst, rules, inl, inr, map, string_bytes, sym, ◌∙◌}
 use Rattle.ds_drive.specs.declared.check.Checking.{Checking}
 use Rattle.ds_drive.specs.declared.list.Listing.{Listing}
-use Rattle.ds_debug.specs.Serving.{pipes}
-use Rattle.ds_debug.specs.declared.serving.Ending.{Ending}
+use Rattle.ds_gdb.specs.Serving.{pipes}
+use Rattle.ds_gdb.specs.declared.serving.Ending.{Ending}
 use Rattle.ds_drive.specs.Inner.Checked.{Checks}
 use Rattle.ds_drive.specs.Debugged.{HasDebugged}
 use Rattle.ds_drive.specs.Done.{stream}

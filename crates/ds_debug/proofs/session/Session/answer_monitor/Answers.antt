@@ -2,7 +2,7 @@ use Rattle.std.proofs.Common.{◌≡◌, ℕ, List, ◌++◌, append_assoc, ap, 
 use Rattle.std.specs.Prelude.{OnOk, codes}
 use Rattle.ds_packets.specs.Framing.{frame}
 use Rattle.ds_debug.specs.Answers.{run_report_text}
-use Rattle.ds_debug.specs.Outputs.{outputs_text}
+use Rattle.ds_gdb.specs.Outputs.{outputs_text}
 use Rattle.ds_debug.specs.Sessions.{SessionState, sight_of}
 use Rattle.ds_debug.specs.Sights.{sight_held}
 use Rattle.ds_debug.proofs.Looking.{on_ok}

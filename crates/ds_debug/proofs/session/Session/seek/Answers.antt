@@ -20,9 +20,9 @@ returns-in-Ok-find_last-clause-finds c =
       start = c.in-Ok.station.held;
       last = c.find_last.new.station.held;
       begins = c.in-Ok.ensures.begins;
-      finds = finds_alike c.args.sought (goal_with c.as_slice.result.now c.as_slice-2.result.now c.as_slice-3.result.now) (goal_with actions inside.breakpoints.items inside.watchpoints.items) c.earlier-until.result (earlier inside.station.held.kept.state.time inside.limit)
+      finds = finds_alike c.args.sought (goal_with c.as_slice.result.now c.as_slice-2.result.now c.as_slice-3.result.now) (goal_with actions inside.breakpoints inside.watchpoints) c.earlier-until.result (earlier inside.station.held.kept.state.time inside.limit)
           c.in-Ok-find_last.place c.in-Ok.station.held c.find_last.new.station.held
-          (goals_alike c.as_slice.result.now actions c.as_slice-2.result.now inside.breakpoints.items c.as_slice-3.result.now inside.watchpoints.items (listed ∙ c.in_ok-actions.ensures) c.as_slice-2.ensures.value c.as_slice-3.ensures.value)
+          (goals_alike c.as_slice.result.now actions c.as_slice-2.result.now inside.breakpoints c.as_slice-3.result.now inside.watchpoints (listed ∙ c.in_ok-actions.ensures) c.as_slice-2.ensures c.as_slice-3.ensures)
           (until_alike c.earlier-until.result c.time.result inside.station.held.kept.state.time inside.limit c.earlier-until.ensures.value c.time.ensures.held) c.in-Ok-find_last.ensures.finds;
     })
 

@@ -1,0 +1,2 @@
+-- What code and proofs share, and no promise speaks of.
+pub mod Serving

@@ -1,0 +1,13 @@
+pub mod Each
+pub mod Digits
+pub mod Threads
+pub mod Description
+pub mod Replies
+pub mod Steps
+pub mod Points
+pub mod Stops
+pub mod Outputs
+pub mod Streams
+pub mod Serving
+pub mod Rows
+pub mod Inner
