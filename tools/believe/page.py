@@ -10,7 +10,7 @@ from .words import Names
 
 PAGE = "docs/believe.md"
 KIT_FIELDS = {"now", "old", "new", "items", "top", "contents", "remaining"}  # of the kit's types
-RUN, TRACE, BARE, DRIVE = (f"crates/{it}.rt" for it in ("ds_station/src/files", "ds_trace/src/files", "ds_bare/src/run", "ds_drive/src/program"))
+RUN, TRACE, BARE, BARE_DEBUG, DRIVE = (f"crates/{it}.rt" for it in ("ds_station/src/files", "ds_trace/src/files", "ds_bare/src/run", "ds_bare_debug/src/debug", "ds_drive/src/program"))
 
 
 class Asked(NamedTuple):
@@ -58,6 +58,9 @@ LISTS = [
     Asked(BARE, "run_bare", [],
           "What is told of an image on the bare machine, instruction by instruction.",
           ["`tools/bare_model.py`, which writes the text of each row of `bare/` and `examples/bare/`"]),
+    Asked(BARE_DEBUG, "debug_bare", [],
+          "What a debugger of the bare machine is answered: its positions, what stops there, and the text of a session.",
+          ["the worked rows of `ds_gdb` and `ds_bare_debug`"]),
     Asked(DRIVE, "drive_with_input", [],
           "What the words of the program ask for, its statuses, listings and checks, what a run came to, and what is told of a fault.",
           ["`tools/came_model.py`, which writes the text of each row of `came/`: statuses, words of memory, summaries and bounds",

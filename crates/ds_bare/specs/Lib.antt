@@ -2,6 +2,7 @@ pub mod Faults
 pub mod Keys
 pub mod Counts
 pub mod Machine
+pub mod Sights
 pub mod Endings
 pub mod Steps
 pub mod Begun

@@ -17,10 +17,13 @@ mod names;
 mod registers;
 mod run;
 mod shows;
+mod sights;
 mod step;
 
 pub use ds_policy::Character;
 pub use ending::Ending;
 pub use fault::BareFault;
 pub use keys::keys_of;
+pub use machine::Machine;
 pub use run::run_bare;
+pub use sights::machine_at_start;

@@ -4,7 +4,7 @@ ghost use Rattle.ds_bare.specs.Faults.{may_start};
 ghost use Rattle.ds_bare.specs.Machine.{bus_fed, core_at_start, memory_with, still_coming, with_sent};
 
 use crate::counts::Counts;
-use crate::ending::Processor;
+use crate::ending::{Ending, Processor, ending_by, word_at_pc};
 use ds_asm::Image;
 use ds_core::{Core, Event};
 use ds_cp0::Cp0;
@@ -26,12 +26,12 @@ const PAGES: u8 = 16;
 
 /// The machine; a contract sees it as the record of its parts.
 #[derive(Drop)]
-pub(crate) struct Machine<'a> {
-    pub core: Processor,
-    pub bus: Bus,
+pub struct Machine<'a> {
+    pub(crate) core: Processor,
+    pub(crate) bus: Bus,
     coming: &'a [Character],
-    pub sent: Vec<(u8, u8)>,
-    pub counts: Counts,
+    pub(crate) sent: Vec<(u8, u8)>,
+    pub(crate) counts: Counts,
 }
 
 impl<'a> Model for Machine<'a> {
@@ -112,9 +112,10 @@ fn add_sent(sent: &mut Vec<(u8, u8)>, character: Option<(u8, u8)>) -> Result<(),
 impl<'a> Machine<'a> {
     ghost use Rattle.std.specs.Prelude.{◌≡◌, ◌↔◌, ◌<◌, ◌≤◌, IfOk, OnOk, OnErr, IfErr};
     ghost use Rattle.ds_bare.specs.Machine.{counted, fed, machine_with, next_step, settled_machine, stepped};
+    ghost use Rattle.ds_bare.specs.Runs.{ending_at, turned};
 
     /// A processor with an image in its memory.
-    pub fn new(
+    pub(crate) fn new(
         alloc: Global,
         core: Processor,
         image: &Image,
@@ -135,7 +136,7 @@ impl<'a> Machine<'a> {
     /// Lets the characters come in that are due when so many instructions are done.
     #[inline(always)]
     #[tactic(auto, unfolding(crate::specs::Machine::fed), using(crate::proofs::Coming::fewer_come))]
-    pub fn feed(&mut self, time: u64)
+    pub(crate) fn feed(&mut self, time: u64)
         ensures { self.new ≡ fed time self.old }
     {
         let coming = feed(&mut self.bus, time, self.coming);
@@ -147,7 +148,7 @@ impl<'a> Machine<'a> {
     /// Does the next step.
     #[inline(always)]
     #[tactic(auto, unfolding(crate::specs::Machine::next_step, crate::specs::Machine::stepped))]
-    pub fn step(&mut self) -> Event
+    pub(crate) fn step(&mut self) -> Event
         ensures state { self.new ≡ stepped self.old }
         ensures event { result ≡ (next_step self.old).event }
     {
@@ -157,7 +158,7 @@ impl<'a> Machine<'a> {
     /// Counts the last step, by the instruction's word and what became of it.
     #[inline(always)]
     #[tactic(auto, unfolding(crate::specs::Machine::counted))]
-    pub fn count(&mut self, word: Option<u32>, event: Event)
+    pub(crate) fn count(&mut self, word: Option<u32>, event: Event)
         ensures { self.new ≡ counted word event self.old }
     {
         self.counts = self.counts.with_step(word, event, &self.core, &self.bus);
@@ -166,11 +167,27 @@ impl<'a> Machine<'a> {
     /// Lets a tick pass, and the character leave that a line has sent.
     #[inline(always)]
     #[tactic(auto, unfolding(crate::specs::Machine::settled_machine))]
-    pub fn settle(&mut self) -> Result<(), AllocError>
+    pub(crate) fn settle(&mut self) -> Result<(), AllocError>
         ensures { OnOk result (self.new ≡ settled_machine self.old) }
     {
         self.bus.tick(1);
         let sent = self.bus.sent();
         add_sent(&mut self.sent, sent)
+    }
+
+    /// Does one instruction, when so many are done, and answers why a run ends with it.
+    #[inline(always)]
+    #[tactic(auto, unfolding(crate::specs::Runs::ending_at, crate::specs::Runs::turned, crate::specs::Endings::ending_of))]
+    pub fn turn(&mut self, done: u64) -> Result<Option<Ending>, AllocError>
+        ensures state { OnOk result (self.new ≡ turned done self.old) }
+        ensures ending { IfOk result (λ ending. ending ≡ ending_at done self.old) }
+    {
+        self.feed(done);
+        let word = word_at_pc(&self.core, &self.bus);
+        let event = self.step();
+        let ending = ending_by(word, event, &self.core, &self.bus);
+        self.count(word, event);
+        self.settle()?;
+        Ok(ending)
     }
 }

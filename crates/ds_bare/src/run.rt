@@ -116,13 +116,7 @@ fn turn<'a, O: Output>(
     ensures once { IsAskedOnce (O.answers out.old) (O.answers out.new) (is_unwritten result) }
 {
     if !view.reaches(done + 1) {
-        machine.feed(done);
-        let word = word_at_pc(&machine.core, &machine.bus);
-        let event = machine.step();
-        let ending = ending_by(word, event, &machine.core, &machine.bus);
-        machine.count(word, event);
-        machine.settle()?;
-        return Ok(ending);
+        return Ok(machine.turn(done)?);
     }
     let others = others(&machine.core, &machine.bus);
     machine.feed(done);

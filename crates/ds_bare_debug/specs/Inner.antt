@@ -1,0 +1,3 @@
+-- What code and proofs share, and no promise speaks of.
+pub mod Goals
+pub mod Serving

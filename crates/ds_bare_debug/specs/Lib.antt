@@ -1,0 +1,10 @@
+pub mod Positions
+pub mod Watches
+pub mod Goals
+pub mod Going
+pub mod Looks
+pub mod Sessions
+pub mod Serving
+pub mod Runs
+pub mod Rows
+pub mod Inner
