@@ -23,8 +23,8 @@ def lacks_of(repository, crate):
     keys = lambda name: {key(body) for body in crate.named(name)}
     tried = {key(public[it]) for edit in crate.edits for it in edit.functions if it in public}
     tried |= {it for edit in crate.edits for law in edit.laws for it in keys(law)}
-    for name in (it[0].rpartition("/") for other in repository.crates.values() for edit in other.edits for it in edit.stands):
-        tried |= keys(name[2]) if name[0] in ("", crate.name) else set()
+    for other, name in ((other, it[0].rpartition("/")) for other in repository.crates.values() for edit in other.edits for it in edit.stands):
+        tried |= keys(name[2]) if (name[0] or other.name) == crate.name else set()
     file = Path(crate.folder, "wrong/implied")
     for text in file.read_text("utf-8").split("\n") if file.is_file() else []:
         it = LINE.fullmatch(text)
