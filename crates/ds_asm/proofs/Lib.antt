@@ -1,3 +1,4 @@
+pub mod Names
 pub mod WrittenForms
 pub mod Pages
 pub mod Places

@@ -5,11 +5,14 @@ use Rattle.std.proofs.lemmas.Bool.{cases_Bool, ltb-true, ltb-false}
 use Rattle.std.proofs.lemmas.List.{drop_all, take_all}
 use Rattle.std.proofs.lemmas.List.Splits.{slice_split_first}
 use Rattle.ds_word.specs.ResultBinding.{◌>>=◌}
+use Rattle.ds_asm.specs.declared.cause.Cause.{Cause}
+use Rattle.ds_asm.specs.declared.cause.Stop.{Stop}
+use Rattle.ds_asm.specs.declared.cause.Stop.TheVariants as stop
 use Rattle.ds_asm.specs.declared.fault.AsmFault.{AsmFault}
 use Rattle.ds_asm.specs.declared.fault.AsmFault.TheVariants as asm
 use Rattle.ds_asm.specs.declared.fault.SourceFault.{SourceFault}
-use Rattle.ds_asm.specs.Assembly.{without_empty_last, lines_of, origin, Labels, label_address, Layout, labelled, sized, laid_line, laid_lines, line_bytes, bytes_from}
-use Rattle.ds_asm.specs.Inner.Assembling.{Fails}
+use Rattle.ds_asm.specs.Assembly.{at_line, without_empty_last, lines_of, origin, Labels, label_address, Layout, labelled, sized, laid_line, laid_lines, line_bytes, bytes_from}
+use Rattle.ds_asm.specs.Inner.Assembling.{Fails, Refuses, stopped_at}
 use Rattle.ds_asm.specs.Lines.{Line, line_of}
 
 -- a list in which no element passes is one part
@@ -60,50 +63,45 @@ pub fails_bind : {A B : Type 0} (e : AsmFault) (r : Result A SourceFault) (f : A
 fails_bind (asm.Source fault) r f p = ap (λ x. x >>= f) p
 fails_bind asm.Memory r f p = tt
 
--- The first pass.
-pub layout_good : (n : ℕ) (m next : Layout) (text line after : List ℕ) → lines_of text ≡ line ∷ lines_of after → laid_line n (line_of line) m ≡ Ok next
-    → laid_lines n m (lines_of text) ≡ laid_lines (n + 1) next (lines_of after)
-layout_good n m next text line after first said = ap (laid_lines n m) first ∙ ap (λ r. r >>= (λ more. laid_lines (n + 1) more (lines_of after))) said
+-- what stops a line is a fault of the source
+stops_source : {A B : Type 0} (e : Stop) (n : ℕ) (r : Result A Cause) (f : A → Result B SourceFault) → Refuses e r → Fails (stopped_at n e) (at_line n r >>= f)
+stops_source (stop.Refused cause) n r f p = ap (λ x. at_line n x >>= f) p
+stops_source stop.Memory n r f p = tt
 
-pub layout_bad : (e : AsmFault) (n : ℕ) (m : Layout) (text line after : List ℕ) → lines_of text ≡ line ∷ lines_of after → Fails e (laid_line n (line_of line) m)
-    → Fails e (laid_lines n m (lines_of text))
-layout_bad e n m text line after first said = rw first (fails_bind e (laid_line n (line_of line) m) (λ more. laid_lines (n + 1) more (lines_of after)) said)
+-- The first pass.
+pub layout_good : (n : ℕ) (m next : Layout) (text line after : List ℕ) → lines_of text ≡ line ∷ lines_of after → laid_line (line_of line) m ≡ Ok next
+    → laid_lines n m (lines_of text) ≡ laid_lines (n + 1) next (lines_of after)
+layout_good n m next text line after first said = ap (laid_lines n m) first ∙ ap (λ r. at_line n r >>= (λ more. laid_lines (n + 1) more (lines_of after))) said
+
+pub layout_bad : (e : Stop) (n : ℕ) (m : Layout) (text line after : List ℕ) → lines_of text ≡ line ∷ lines_of after → Refuses e (laid_line (line_of line) m)
+    → Fails (stopped_at n e) (laid_lines n m (lines_of text))
+layout_bad e n m text line after first said = rw first (stops_source e n (laid_line (line_of line) m) (λ more. laid_lines (n + 1) more (lines_of after)) said)
 
 pub layout_end : (n : ℕ) (m : Layout) (text : List ℕ) → length text ≡ 0 → laid_lines n m (lines_of text) ≡ Ok m
 layout_end n m [] none = refl
 layout_end n m (x ∷ xs) none = absurd (omega arith)
 
 -- The second pass.
-pub bytes_good : (n : ℕ) (find : List ℕ → Option ℕ) (bytes more text line after : List ℕ) → lines_of text ≡ line ∷ lines_of after → line_bytes n find (length bytes) (line_of line) ≡ Ok more
+pub bytes_good : (n : ℕ) (find : List ℕ → Option ℕ) (bytes more text line after : List ℕ) → lines_of text ≡ line ∷ lines_of after → line_bytes find (length bytes) (line_of line) ≡ Ok more
     → bytes_from n find bytes (lines_of text) ≡ bytes_from (n + 1) find (bytes ++ more) (lines_of after)
-bytes_good n find bytes more text line after first said = ap (bytes_from n find bytes) first ∙ ap (λ r. r >>= (λ m. bytes_from (n + 1) find (bytes ++ m) (lines_of after))) said
+bytes_good n find bytes more text line after first said = ap (bytes_from n find bytes) first ∙ ap (λ r. at_line n r >>= (λ m. bytes_from (n + 1) find (bytes ++ m) (lines_of after))) said
 
-pub bytes_bad : (e : AsmFault) (n : ℕ) (find : List ℕ → Option ℕ) (bytes text line after : List ℕ) → lines_of text ≡ line ∷ lines_of after → Fails e (line_bytes n find (length bytes) (line_of line))
-    → Fails e (bytes_from n find bytes (lines_of text))
-bytes_bad e n find bytes text line after first said = rw first (fails_bind e (line_bytes n find (length bytes) (line_of line)) (λ m. bytes_from (n + 1) find (bytes ++ m) (lines_of after)) said)
+pub bytes_bad : (e : Stop) (n : ℕ) (find : List ℕ → Option ℕ) (bytes text line after : List ℕ) → lines_of text ≡ line ∷ lines_of after → Refuses e (line_bytes find (length bytes) (line_of line))
+    → Fails (stopped_at n e) (bytes_from n find bytes (lines_of text))
+bytes_bad e n find bytes text line after first said = rw first (stops_source e n (line_bytes find (length bytes) (line_of line)) (λ m. bytes_from (n + 1) find (bytes ++ m) (lines_of after)) said)
 
 pub bytes_end : (n : ℕ) (find : List ℕ → Option ℕ) (bytes text : List ℕ) → length text ≡ 0 → bytes_from n find bytes (lines_of text) ≡ Ok bytes
 bytes_end n find bytes [] none = refl
 bytes_end n find bytes (x ∷ xs) none = absurd (omega arith)
 
 -- a label that stands nowhere before is taken
-pub labelled_new : (n at : ℕ) (label : Option (List ℕ)) (name : List ℕ) (labels : Labels) → label ≡ Some name → is_some (label_address labels name) ≡ false → labelled n at label labels ≡ Ok ((name, origin + at) ∷ labels)
-labelled_new n at label name labels p q = rw (p, q) refl
+pub labelled_new : (at : ℕ) (label : Option (List ℕ)) (name : List ℕ) (labels : Labels) → label ≡ Some name → is_some (label_address labels name) ≡ false → labelled at label labels ≡ Ok ((name, origin + at) ∷ labels)
+labelled_new at label name labels p q = rw (p, q) refl
 
 -- a line whose label and statement are good is
-pub line_laid : (n at after : ℕ) (x : Option Line) (line : Line) (l : Layout) (labels : Labels) (size : ℕ) → x ≡ Some line → at ≡ l.size → labelled n at line.label l.labels ≡ Ok labels
-    → after ≡ l.size → sized n after line.statement ≡ Ok size → laid_line n x l ≡ Ok (record { labels = labels; size = size })
-line_laid n at after x line l labels size p e q f r =
-    let q2 = subst (λ (k : ℕ). labelled n k line.label l.labels ≡ Ok labels) e q in
-    let r2 = subst (λ (k : ℕ). sized n k line.statement ≡ Ok size) f r in
+pub line_laid : (at after : ℕ) (x : Option Line) (line : Line) (l : Layout) (labels : Labels) (size : ℕ) → x ≡ Some line → at ≡ l.size → labelled at line.label l.labels ≡ Ok labels
+    → after ≡ l.size → sized after line.statement ≡ Ok size → laid_line x l ≡ Ok (record { labels = labels; size = size })
+line_laid at after x line l labels size p e q f r =
+    let q2 = subst (λ (k : ℕ). labelled k line.label l.labels ≡ Ok labels) e q in
+    let r2 = subst (λ (k : ℕ). sized k line.statement ≡ Ok size) f r in
     rw (p, q2, r2) refl
-
--- and one whose label or statement isn't is not
-pub label_fails : (e : AsmFault) (n at : ℕ) (x : Option Line) (line : Line) (l : Layout) → x ≡ Some line → at ≡ l.size → Fails e (labelled n at line.label l.labels) → Fails e (laid_line n x l)
-label_fails e n at x line l p f h = rw p (fails_bind e (labelled n l.size line.label l.labels) _ (subst (λ (k : ℕ). Fails e (labelled n k line.label l.labels)) f h))
-
-pub statement_fails : (e : AsmFault) (n at after : ℕ) (x : Option Line) (line : Line) (l : Layout) (labels : Labels) → x ≡ Some line → at ≡ l.size → labelled n at line.label l.labels ≡ Ok labels
-    → after ≡ l.size → Fails e (sized n after line.statement) → Fails e (laid_line n x l)
-statement_fails e n at after x line l labels p f q g h =
-    let q2 = subst (λ (k : ℕ). labelled n k line.label l.labels ≡ Ok labels) f q in
-    rw (p, q2) (fails_bind e (sized n l.size line.statement) _ (subst (λ (k : ℕ). Fails e (sized n k line.statement)) g h))

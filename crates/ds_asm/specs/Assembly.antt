@@ -1,6 +1,7 @@
 -- What a source says: the bytes of its statements one after the other, or its first fault.
-use Rattle.std.specs.Prelude.{ℕ, ◌+◌, ◌-◌, ◌/◌, ◌%◌, ◌^◌, Bool, true, false, not, ◌&&◌, ◌==◌, nat_le, nat_lt, bytes_eq, if◌then◌else◌, List, [], ◌∷◌, ◌++◌, length, replicate, Option, Some, None, is_none, is_some, Result, Ok, Err}
+use Rattle.std.specs.Prelude.{ℕ, ◌+◌, ◌-◌, ◌/◌, ◌%◌, ◌^◌, Bool, true, false, not, ◌&&◌, ◌==◌, nat_le, nat_lt, bytes_eq, if◌then◌else◌, List, [], ◌∷◌, ◌++◌, length, replicate, Option, Some, None, ok_or, is_some, Result, Ok, Err}
 use Rattle.std.specs.List.{slice_split}
+use Rattle.std.specs.Result.{result_map_both}
 use Rattle.ds_word.specs.Bytes.{bytes_of_word}
 use Rattle.ds_word.specs.ResultBinding.{◌>>=◌}
 use Rattle.ds_isa.specs.declared.instr.Instr.{Instr}
@@ -8,13 +9,28 @@ use Rattle.ds_isa.specs.declared.instr.Instr.TheVariants as instr
 use Rattle.ds_isa.specs.Fields.{imm, target}
 use Rattle.ds_isa.specs.Instruction.{instruction_of}
 use Rattle.ds_asm.specs.declared.cause.Cause.{Cause}
-use Rattle.ds_asm.specs.declared.cause.Cause.TheVariants.{OutOfRange, NotAligned, Reserved}
+use Rattle.ds_asm.specs.declared.cause.Cause.TheVariants.{Syntax, DoubleLabel, OutOfRange, NotAligned, Reserved, TooLong, UnknownLabel, OutOfReach}
 use Rattle.ds_asm.specs.declared.fault.SourceFault.{SourceFault}
-use Rattle.ds_asm.specs.declared.fault.SourceFault.TheVariants.{Syntax, UnknownLabel, DoubleLabel, Range, TooLong}
+use Rattle.ds_asm.specs.declared.fault.SourceFault.TheVariants as fault
 use Rattle.ds_asm.specs.declared.number.Bounds.{Bounds}
-use Rattle.ds_asm.specs.Numbers.{fits_bounds, out_of_range, as_word}
+use Rattle.ds_asm.specs.Numbers.{out_of_range, as_word}
 use Rattle.ds_asm.specs.Operands.{Instruction, TargetLabel, Nowhere, BranchTo, JumpTo, with_value}
 use Rattle.ds_asm.specs.Lines.{Statement, Encoded, WordNumber, WordLabel, Byte, Space, Line, line_of}
+
+-- the refusal of line n for a cause
+abbrev pub fault_at : ℕ → Cause → SourceFault
+fault_at n Syntax = fault.Syntax n
+fault_at n DoubleLabel = fault.DoubleLabel n
+fault_at n (OutOfRange b) = fault.Range n
+fault_at n NotAligned = fault.Range n
+fault_at n Reserved = fault.Range n
+fault_at n TooLong = fault.TooLong n
+fault_at n UnknownLabel = fault.UnknownLabel n
+fault_at n OutOfReach = fault.Range n
+
+-- what came of line n, with its refusal in the place of its cause
+abbrev pub at_line : {A : Type 0} → ℕ → Result A Cause → Result A SourceFault
+at_line n r = result_map_both (λ x. x) (fault_at n) r
 
 -- the pieces without an empty last one, which is no line
 abbrev pub without_empty_last : List (List ℕ) → List (List ℕ)
@@ -61,21 +77,16 @@ statement_size (WordLabel name) = 4
 statement_size (Byte n) = 1
 statement_size (Space n) = n.magnitude
 
--- whether a statement's numbers and registers are in range
-abbrev pub is_in_range : Statement → Bool
-is_in_range (Encoded i) = is_none i.out_of_range && not (is_reserved_word i.word)
-is_in_range (WordNumber n) = fits_bounds 2147483648 4294967295 n
-is_in_range (WordLabel name) = true
-is_in_range (Byte n) = fits_bounds 128 255 n
-is_in_range (Space n) = fits_bounds 0 most_bytes n
-
 -- words stand at multiples of four
 abbrev pub is_word_aligned : ℕ → Statement → Bool
 is_word_aligned at (Byte n) = true
 is_word_aligned at (Space n) = true
-is_word_aligned at (Encoded i) = at % 4 == 0
-is_word_aligned at (WordNumber n) = at % 4 == 0
-is_word_aligned at (WordLabel name) = at % 4 == 0
+is_word_aligned at _ = at % 4 == 0
+
+-- whether a statement is an instruction with registers that it may not have
+abbrev pub has_reserved : Statement → Bool
+has_reserved (Encoded i) = is_reserved_word i.word
+has_reserved _ = false
 
 -- the bounds of a statement's first number that is out of range
 abbrev pub bounds_in : Statement → Option Bounds
@@ -85,14 +96,15 @@ bounds_in (WordLabel name) = None
 bounds_in (Byte n) = out_of_range 128 255 n
 bounds_in (Space n) = out_of_range 0 most_bytes n
 
--- why a statement that is refused at a place of the image is, by the bounds of its number that is out of range, where it has one
-abbrev pub cause_by : ℕ → Option Bounds → Cause
-cause_by at (Some b) = OutOfRange b
-cause_by at None = if at % 4 == 0 then Reserved else NotAligned
+-- the first cause that holds: bounds that a number is not within, a word at a wrong place, reserved registers
+abbrev pub first_cause : Option Bounds → Bool → Bool → Option Cause
+first_cause (Some b) aligned reserved = Some (OutOfRange b)
+first_cause None false reserved = Some NotAligned
+first_cause None true reserved = if reserved then Some Reserved else None
 
 -- why a statement may not stand at a place of the image, if it may not
 abbrev pub cause_at : ℕ → Statement → Option Cause
-cause_at at s = if is_in_range s && is_word_aligned at s then None else Some (cause_by at (bounds_in s))
+cause_at at s = first_cause (bounds_in s) (is_word_aligned at s) (has_reserved s)
 
 -- the labels so far, and the size of the image so far
 pub record Layout : Type 0 where
@@ -104,29 +116,29 @@ abbrev pub empty_layout : Layout
 empty_layout = record { labels = []; size = 0 }
 
 -- the labels with one that stands at a place of the image
-abbrev pub labelled : ℕ → ℕ → Option (List ℕ) → Labels → Result Labels SourceFault
-labelled n at None labels = Ok labels
-labelled n at (Some name) labels = if is_some (label_address labels name) then Err (DoubleLabel n) else Ok ((name, origin + at) ∷ labels)
+abbrev pub labelled : ℕ → Option (List ℕ) → Labels → Result Labels Cause
+labelled at None labels = Ok labels
+labelled at (Some name) labels = if is_some (label_address labels name) then Err DoubleLabel else Ok ((name, origin + at) ∷ labels)
 
 -- this size of the image, unless it is too much, or there is a cause against its last statement
-abbrev pub sized_by : ℕ → ℕ → Option Cause → Result ℕ SourceFault
-sized_by n size (Some cause) = Err (Range n)
-sized_by n size None = if nat_lt most_bytes size then Err (TooLong n) else Ok size
+abbrev pub sized_by : ℕ → Option Cause → Result ℕ Cause
+sized_by size (Some cause) = Err cause
+sized_by size None = if nat_lt most_bytes size then Err TooLong else Ok size
 
 -- the size of the image with a statement
-abbrev pub sized : ℕ → ℕ → Option Statement → Result ℕ SourceFault
-sized n at None = Ok at
-sized n at (Some s) = sized_by n (at + statement_size s) (cause_at at s)
+abbrev pub sized : ℕ → Option Statement → Result ℕ Cause
+sized at None = Ok at
+sized at (Some s) = sized_by (at + statement_size s) (cause_at at s)
 
--- the layout with what line n says, which is none where it has no meaning
-abbrev pub laid_line : ℕ → Option Line → Layout → Result Layout SourceFault
-laid_line n None l = Err (Syntax n)
-laid_line n (Some line) l = labelled n l.size line.label l.labels >>= (λ labels. sized n l.size line.statement >>= (λ size. Ok (record { labels = labels; size = size })))
+-- the layout with what a line says, which is none where it has no meaning
+abbrev pub laid_line : Option Line → Layout → Result Layout Cause
+laid_line None l = Err Syntax
+laid_line (Some line) l = labelled l.size line.label l.labels >>= (λ labels. sized l.size line.statement >>= (λ size. Ok (record { labels = labels; size = size })))
 
 -- with lines of which the first is line n
 abbrev pub laid_lines : ℕ → Layout → List (List ℕ) → Result Layout SourceFault
 laid_lines n l [] = Ok l
-laid_lines n l (line ∷ lines) = laid_line n (line_of line) l >>= (λ more. laid_lines (n + 1) more lines)
+laid_lines n l (line ∷ lines) = at_line n (laid_line (line_of line) l) >>= (λ more. laid_lines (n + 1) more lines)
 
 -- The second pass: bytes.
 
@@ -141,48 +153,42 @@ branch_field slot address =
 abbrev pub jump_field : ℕ → ℕ → Option ℕ
 jump_field slot address = if (address % 4 == 0) && (address / 2 ^ 28 == slot / 2 ^ 28) then Some (address / 4 % 2 ^ 26) else None
 
--- the address of a label, or the fault that it is nowhere
-abbrev pub known : ℕ → Option ℕ → Result ℕ SourceFault
-known n None = Err (UnknownLabel n)
-known n (Some address) = Ok address
-
--- the field of a label, or the fault that it is out of reach
-abbrev pub reachable_field : ℕ → Option ℕ → Result ℕ SourceFault
-reachable_field n None = Err (Range n)
-reachable_field n (Some field) = Ok field
+-- the address of a label, which has to stand somewhere
+abbrev pub known : Option ℕ → Result ℕ Cause
+known address = ok_or address UnknownLabel
 
 -- the word of an instruction whose slot has an address; find gives those of labels
-abbrev pub resolved : ℕ → (List ℕ → Option ℕ) → ℕ → Instruction → TargetLabel → Result ℕ SourceFault
-resolved n find slot i Nowhere = Ok i.word
-resolved n find slot i (BranchTo name) = known n (find name) >>= (λ a. reachable_field n (branch_field slot a) >>= (λ f. Ok (with_value imm f i).word))
-resolved n find slot i (JumpTo name) = known n (find name) >>= (λ a. reachable_field n (jump_field slot a) >>= (λ f. Ok (with_value target f i).word))
+abbrev pub resolved : (List ℕ → Option ℕ) → ℕ → Instruction → TargetLabel → Result ℕ Cause
+resolved find slot i Nowhere = Ok i.word
+resolved find slot i (BranchTo name) = known (find name) >>= (λ a. ok_or (branch_field slot a) OutOfReach >>= (λ f. Ok (with_value imm f i).word))
+resolved find slot i (JumpTo name) = known (find name) >>= (λ a. ok_or (jump_field slot a) OutOfReach >>= (λ f. Ok (with_value target f i).word))
 
--- the bytes of a word, or its fault
-abbrev pub word_bytes : Result ℕ SourceFault → Result (List ℕ) SourceFault
+-- the bytes of a word, if there is one
+abbrev pub word_bytes : Result ℕ Cause → Result (List ℕ) Cause
 word_bytes w = w >>= (λ v. Ok (bytes_of_word v))
 
 -- the bytes of a statement at a place of the image
-abbrev pub statement_bytes : ℕ → (List ℕ → Option ℕ) → ℕ → Statement → Result (List ℕ) SourceFault
-statement_bytes n find at (Encoded i) = word_bytes (resolved n find (origin + at + 4) i i.target)
-statement_bytes n find at (WordNumber x) = Ok (bytes_of_word (as_word x))
-statement_bytes n find at (WordLabel name) = word_bytes (known n (find name))
-statement_bytes n find at (Byte x) = Ok ((as_word x % 2 ^ 8) ∷ [])
-statement_bytes n find at (Space x) = Ok (replicate x.magnitude 0)
+abbrev pub statement_bytes : (List ℕ → Option ℕ) → ℕ → Statement → Result (List ℕ) Cause
+statement_bytes find at (Encoded i) = word_bytes (resolved find (origin + at + 4) i i.target)
+statement_bytes find at (WordNumber x) = Ok (bytes_of_word (as_word x))
+statement_bytes find at (WordLabel name) = word_bytes (known (find name))
+statement_bytes find at (Byte x) = Ok ((as_word x % 2 ^ 8) ∷ [])
+statement_bytes find at (Space x) = Ok (replicate x.magnitude 0)
 
 -- the bytes of a statement; where there is no statement there are no bytes
-abbrev pub optional_bytes : ℕ → (List ℕ → Option ℕ) → ℕ → Option Statement → Result (List ℕ) SourceFault
-optional_bytes n find at None = Ok []
-optional_bytes n find at (Some s) = statement_bytes n find at s
+abbrev pub optional_bytes : (List ℕ → Option ℕ) → ℕ → Option Statement → Result (List ℕ) Cause
+optional_bytes find at None = Ok []
+optional_bytes find at (Some s) = statement_bytes find at s
 
 -- the bytes of a line; a malformed line has none either, and the first pass has refused it
-abbrev pub line_bytes : ℕ → (List ℕ → Option ℕ) → ℕ → Option Line → Result (List ℕ) SourceFault
-line_bytes n find at None = Ok []
-line_bytes n find at (Some line) = optional_bytes n find at line.statement
+abbrev pub line_bytes : (List ℕ → Option ℕ) → ℕ → Option Line → Result (List ℕ) Cause
+line_bytes find at None = Ok []
+line_bytes find at (Some line) = optional_bytes find at line.statement
 
 -- the bytes with those of lines of which the first is line n
 abbrev pub bytes_from : ℕ → (List ℕ → Option ℕ) → List ℕ → List (List ℕ) → Result (List ℕ) SourceFault
 bytes_from n find bytes [] = Ok bytes
-bytes_from n find bytes (line ∷ lines) = line_bytes n find (length bytes) (line_of line) >>= (λ more. bytes_from (n + 1) find (bytes ++ more) lines)
+bytes_from n find bytes (line ∷ lines) = at_line n (line_bytes find (length bytes) (line_of line)) >>= (λ more. bytes_from (n + 1) find (bytes ++ more) lines)
 
 -- what a source says
 abbrev pub assembled : List ℕ → Result (List ℕ) SourceFault

@@ -1,9 +1,11 @@
 -- All faults of a source.
-use Rattle.std.specs.Prelude.{ℕ, ◌+◌, List, [], ◌∷◌, ◌++◌, Option, Some, None, Result, Ok, Err}
+use Rattle.std.specs.Prelude.{ℕ, ◌+◌, List, [], ◌∷◌, ◌++◌, Option, Some, None, option_map, Result, Ok, Err}
 use Rattle.std.specs.Option.{option_to_list}
+use Rattle.std.specs.Result.{result_err}
+use Rattle.ds_asm.specs.declared.cause.Cause.{Cause}
 use Rattle.ds_asm.specs.declared.fault.SourceFault.{SourceFault}
 use Rattle.ds_asm.specs.Lines.{Statement, Line, line_of}
-use Rattle.ds_asm.specs.Assembly.{Labels, Layout, empty_layout, label_address, statement_size, labelled, laid_line, laid_lines, line_bytes, lines_of}
+use Rattle.ds_asm.specs.Assembly.{Labels, Layout, empty_layout, label_address, statement_size, fault_at, labelled, laid_line, laid_lines, line_bytes, lines_of}
 
 -- the label of a line, if it can be read and has one
 abbrev pub label_in : Option Line → Option (List ℕ)
@@ -20,39 +22,38 @@ abbrev pub size_in : Option Line → ℕ
 size_in None = 0
 size_in (Some line) = optional_size line.statement
 
--- the fault of a result, if it has one
-abbrev pub fault_in : {A : Type 0} → Result A SourceFault → Option SourceFault
-fault_in (Ok x) = None
-fault_in (Err fault) = Some fault
+-- the fault of line n, if it has one, by what came of it
+abbrev pub fault_in : {A : Type 0} → ℕ → Result A Cause → List SourceFault
+fault_in n r = option_to_list (option_map (fault_at n) (result_err r))
 
 -- labels with one more, or as they are where that can't be
-abbrev pub or_kept : Result Labels SourceFault → Labels → Labels
+abbrev pub or_kept : Result Labels Cause → Labels → Labels
 or_kept (Ok more) labels = more
-or_kept (Err fault) labels = labels
+or_kept (Err cause) labels = labels
 
--- the labels after line n, whatever else is wrong in it
-abbrev pub labels_past : ℕ → Option Line → Layout → Labels
-labels_past n None l = l.labels
-labels_past n (Some line) l = or_kept (labelled n l.size line.label l.labels) l.labels
+-- the labels after a line, whatever else is wrong in it
+abbrev pub labels_past : Option Line → Layout → Labels
+labels_past None l = l.labels
+labels_past (Some line) l = or_kept (labelled l.size line.label l.labels) l.labels
 
 -- the layout after a good line; after one at fault the image begins anew, so that a wrong place and
 -- too many bytes are told once
-abbrev pub layout_past : Result Layout SourceFault → Labels → Layout
+abbrev pub layout_past : Result Layout Cause → Labels → Layout
 layout_past (Ok more) labels = more
-layout_past (Err fault) labels = record { labels = labels; size = 0 }
+layout_past (Err cause) labels = record { labels = labels; size = 0 }
 
 -- the faults of lines in the first pass, at most one of each line, of which the first is line n
 abbrev pub first_faults : ℕ → Layout → List (List ℕ) → List SourceFault
 first_faults n l [] = []
 first_faults n l (line ∷ lines) =
-    option_to_list (fault_in (laid_line n (line_of line) l))
-    ++ first_faults (n + 1) (layout_past (laid_line n (line_of line) l) (labels_past n (line_of line) l)) lines
+    fault_in n (laid_line (line_of line) l)
+    ++ first_faults (n + 1) (layout_past (laid_line (line_of line) l) (labels_past (line_of line) l)) lines
 
 -- their faults in the second pass, of which the first line stands at a place of the image
 abbrev pub second_faults : ℕ → (List ℕ → Option ℕ) → ℕ → List (List ℕ) → List SourceFault
 second_faults n find at [] = []
 second_faults n find at (line ∷ lines) =
-    option_to_list (fault_in (line_bytes n find at (line_of line)))
+    fault_in n (line_bytes find at (line_of line))
     ++ second_faults (n + 1) find (at + size_in (line_of line)) lines
 
 -- the faults of the second pass over what the first has laid out, or those of the first

@@ -2,6 +2,8 @@
 use Rattle.std.specs.Prelude.{codes, ℕ, bytes_eq, if◌then◌else◌, List, [], ◌∷◌, drop, Option, Some, None, option_map}
 use Rattle.std.specs.List.{position_or_len, before_first}
 use Rattle.ds_word.specs.OptionBinding.{◌>>=◌}
+use Rattle.ds_asm.specs.declared.line.Directive.{Directive}
+use Rattle.ds_asm.specs.declared.line.Directive.TheVariants as directive
 use Rattle.ds_asm.specs.declared.number.Number.{Number}
 use Rattle.ds_asm.specs.Characters.{is_blank, is_name, without_front_blanks, trimmed, until, text_after}
 use Rattle.ds_asm.specs.Numbers.{written_number}
@@ -46,13 +48,24 @@ number_word None text = label_word text
 abbrev pub instruction_named : List ℕ → Option (List ℕ) → Option Instruction
 instruction_named name left = form_named name >>= (λ f. with_operands f.operands left (without_operands f.word))
 
+-- the directive of a name
+abbrev pub directive_named : List ℕ → Option Directive
+directive_named name =
+    if bytes_eq name (codes ".word") then Some directive.Word
+    else if bytes_eq name (codes ".byte") then Some directive.Byte
+    else if bytes_eq name (codes ".space") then Some directive.Space
+    else None
+
+-- the statement of a directive, or else of an instruction of this name, and of what stands after it
+abbrev pub statement_by : Option Directive → List ℕ → Option (List ℕ) → Option Statement
+statement_by (Some directive.Word) name left = left >>= (λ text. number_word (written_number text) text)
+statement_by (Some directive.Byte) name left = left >>= (λ text. option_map (λ n. Byte n) (written_number text))
+statement_by (Some directive.Space) name left = left >>= (λ text. option_map (λ n. Space n) (written_number text))
+statement_by None name left = option_map (λ i. Encoded i) (instruction_named name left)
+
 -- the statement of a mnemonic and of what stands after it
 unfoldable pub statement_named : List ℕ → Option (List ℕ) → Option Statement
-statement_named name left =
-    if bytes_eq name (codes ".word") then left >>= (λ text. number_word (written_number text) text)
-    else if bytes_eq name (codes ".byte") then left >>= (λ text. option_map (λ n. Byte n) (written_number text))
-    else if bytes_eq name (codes ".space") then left >>= (λ text. option_map (λ n. Space n) (written_number text))
-    else option_map (λ i. Encoded i) (instruction_named name left)
+statement_named name left = statement_by (directive_named name) name left
 
 -- the statement that a text is, if it is one
 abbrev pub statement_of : List ℕ → Option Statement

@@ -1,5 +1,5 @@
 //! Characters of a source, and the parts of a line.
-ghost use Rattle.std.specs.Prelude.{◌≡◌, ◌≤◌, ◌<◌, ◌==◌, ◌||◌, length, map, option_map};
+ghost use Rattle.std.specs.Prelude.{◌≡◌, ◌≤◌, ◌<◌, ◌==◌, ◌||◌, length, map, option_map, take};
 ghost use Rattle.std.specs.List.{list_all, prefix_len, suffix_len, position_or_len, before_first, after_first};
 ghost use Rattle.ds_asm.specs.Characters.{is_blank, is_letter, is_digit, is_name, without_front_blanks, without_back_blanks, trimmed, until, text_after};
 
@@ -110,5 +110,16 @@ pub fn split_at_first(c: u8, text: &[u8]) -> (&[u8], Option<&[u8]>)
         (&text[..place], Some(&text[place + 1..]))
     } else {
         (text, None)
+    }
+}
+
+/// So many characters of a text, or all where they are fewer.
+pub fn front_of(most: usize, text: &[u8]) -> &[u8]
+    ensures { result.now ≡ take most text.now }
+{
+    if most < text.len() {
+        &text[..most]
+    } else {
+        text
     }
 }

@@ -1,9 +1,11 @@
 //! Why a source has no image.
 ghost use Rattle.std.specs.Prelude.{◌≡◌};
+ghost use Rattle.ds_asm.specs.Assembly.{fault_at};
 ghost use Rattle.ds_asm.specs.Assembling.{source_fault_line, source_fault_name, source_fault_number};
 ghost use Rattle.ds_asm.specs.Inner.Assembling.{fault_number};
 ghost use Rattle.ds_asm.specs.declared.fault.AsmFault.TheVariants.{Memory, Source};
 
+use crate::cause::Cause;
 use std::alloc::{AllocError, AllocFailed};
 use std::{error, fmt};
 use thiserror::Error;
@@ -22,6 +24,23 @@ pub enum SourceFault {
     Range(u64),
     /// The line that passes 65,536 bytes.
     TooLong(u64),
+}
+
+impl Cause {
+    /// The refusal of a line for it.
+    pub fn fault(self, line: u64) -> SourceFault
+        ensures { result ≡ fault_at line self }
+    {
+        match self {
+            Cause::Syntax => SourceFault::Syntax(line),
+            Cause::DoubleLabel => SourceFault::DoubleLabel(line),
+            Cause::OutOfRange(_) | Cause::NotAligned | Cause::Reserved | Cause::OutOfReach => {
+                SourceFault::Range(line)
+            }
+            Cause::TooLong => SourceFault::TooLong(line),
+            Cause::UnknownLabel => SourceFault::UnknownLabel(line),
+        }
+    }
 }
 
 impl SourceFault {

@@ -1,13 +1,15 @@
 //! All faults of a source.
-ghost use Rattle.std.specs.Prelude.{◌≡◌, ◌≤◌, ◌++◌, ℕ, List, [], IfOk, OnOk, Ok, Err};
+ghost use Rattle.std.specs.Prelude.{◌≡◌, ◌≤◌, ◌++◌, ℕ, List, [], IfOk, OnOk, Ok, Err, option_map};
 ghost use Rattle.std.specs.Option.{option_to_list};
+ghost use Rattle.std.specs.Result.{result_err};
 ghost use Rattle.ds_asm.specs.Inner.Assembling.{Lays, held_address};
-ghost use Rattle.ds_asm.specs.Assembly.{assembled, empty_layout, line_bytes, lines_of, laid_lines};
+ghost use Rattle.ds_asm.specs.Assembly.{assembled, empty_layout, fault_at, line_bytes, lines_of, laid_lines};
 ghost use Rattle.ds_asm.specs.Assembly as assembly;
-ghost use Rattle.ds_asm.specs.Faults.{all_faults, fault_in, first_faults, second_faults};
+ghost use Rattle.ds_asm.specs.Faults.{all_faults, first_faults, second_faults};
 ghost use Rattle.ds_asm.specs.Inner.Faults.{BeginsWith, ComesOf};
 ghost use Rattle.ds_asm.specs.Lines.{line_of};
 
+use crate::cause::{Cause, Stop};
 use crate::fault::{AsmFault, SourceFault};
 use crate::image::Image;
 use crate::labels::Labels;
@@ -81,13 +83,13 @@ fn first_pass(alloc: Global, text: &[u8]) -> Result<FirstPass<'_>, AllocError>
     while !rest.is_empty() {
         let (line, after) = first_line(rest);
         number += 1;
-        match layout.add_line(number, line) {
+        match layout.add_line(line) {
             Ok(()) => {}
-            Err(AsmFault::Source(fault)) => {
-                faults.push(fault)?;
+            Err(Stop::Refused(cause)) => {
+                faults.push(cause.fault(number))?;
                 layout.size = 0;
             }
-            Err(AsmFault::Memory) => return Err(AllocError),
+            Err(Stop::Memory) => return Err(AllocError),
         }
         rest = after;
     }
@@ -111,39 +113,39 @@ fn second_faults<'a>(
     while !rest.is_empty() {
         let (line, after) = first_line(rest);
         number += 1;
-        push_fault(&mut faults, second_fault(number, labels, place, line))?;
+        push_fault(&mut faults, number, second_cause(labels, place, line))?;
         place += source_line(line).size;
         rest = after;
     }
     Ok(faults)
 }
 
-/// The fault of line `number` in the second pass, where it stands at a place of the image.
-fn second_fault<'a>(
-    number: u64,
-    labels: &Labels<'a>,
-    place: u64,
-    line: &'a [u8],
-) -> Option<SourceFault>
+/// Why the second pass refuses a line, where it stands at a place of the image.
+fn second_cause<'a>(labels: &Labels<'a>, place: u64, line: &'a [u8]) -> Option<Cause>
     requires { place ≤ 65536 }
     ensures { result
-        ≡ fault_in (line_bytes number (held_address labels.now) place (line_of line.now)) }
+        ≡ result_err (line_bytes (held_address labels.now) place (line_of line.now)) }
 {
     match line_of(line)?.statement? {
         Statement::Instruction(instruction) => {
-            resolved(number, labels, u64::from(ORIGIN) + place + 4, &instruction).err()
+            resolved(labels, u64::from(ORIGIN) + place + 4, &instruction).err()
         }
-        Statement::WordOf(name) => known(number, labels, name).err(),
+        Statement::WordOf(name) => known(labels, name).err(),
         Statement::Word(_) | Statement::Byte(_) | Statement::Space(_) => None,
     }
 }
 
-/// Adds a fault, where there is one.
-fn push_fault(faults: &mut Vec<SourceFault>, fault: Option<SourceFault>) -> Result<(), AllocError>
-    ensures { OnOk result (faults.new.items ≡ faults.old.items ++ option_to_list fault) }
+/// Adds the fault of line `number`, where there is a cause.
+fn push_fault(
+    faults: &mut Vec<SourceFault>,
+    number: u64,
+    cause: Option<Cause>,
+) -> Result<(), AllocError>
+    ensures { OnOk result (faults.new.items
+        ≡ faults.old.items ++ option_to_list (option_map (fault_at number) cause)) }
 {
-    if let Some(fault) = fault {
-        faults.push(fault)?;
+    if let Some(cause) = cause {
+        faults.push(cause.fault(number))?;
     }
     Ok(())
 }

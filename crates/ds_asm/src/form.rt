@@ -51,6 +51,7 @@ pub struct Form {
 }
 
 /// An operand, by the word for it in the table of instructions.
+#[macro_export]
 macro_rules! operand {
     (rs) => { Operand::Register(Place::Rs) };
     (rt) => { Operand::Register(Place::Rt) };

@@ -109,6 +109,7 @@ impl<'a> Instruction<'a> {
         }
     }
 
+    #[inline(always)]
     #[tactic(auto, unfolding(crate::specs::Operands::with_operand))]
     fn with_operand(self, operand: Operand, text: &'a [u8]) -> Option<Instruction<'a>>
         ensures { option_map plain_instruction result

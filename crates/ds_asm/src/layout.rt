@@ -1,13 +1,14 @@
 //! The first pass: where labels stand, and whether everything fits.
 ghost use Rattle.std.specs.Prelude.{◌≡◌, ◌≢◌, ◌≤◌, ◌∷◌, Some, None, Ok, option_map, IfOk, IfErr};
-ghost use Rattle.ds_asm.specs.Inner.Assembling.{IsLaid, Holds, Assembles, Comes};
+ghost use Rattle.ds_asm.specs.Inner.Assembling.{IsLaid, Holds, Comes, Takes};
 ghost use Rattle.ds_asm.specs.Assembly.{empty_layout, labelled, sized, laid_line, laid_lines, lines_of};
 ghost use Rattle.ds_asm.specs.Assembly as assembly;
 ghost use Rattle.ds_asm.specs.Faults.{labels_past};
 ghost use Rattle.ds_asm.specs.Lines.{line_of};
 ghost use Rattle.ds_asm.specs.Inner.Plain.{plain_statement};
 
-use crate::fault::{AsmFault, SourceFault};
+use crate::cause::{Cause, Stop};
+use crate::fault::AsmFault;
 use crate::labels::Labels;
 use crate::line::{MOST_BYTES, Statement, line_of};
 use crate::source::first_line;
@@ -33,9 +34,9 @@ pub(crate) fn layout_of(alloc: Global, text: &[u8]) -> Result<Layout<'_>, AsmFau
     while !rest.is_empty() {
         let (line, after) = first_line(rest);
         number += 1;
-        match layout.add_line(number, line) {
+        match layout.add_line(line) {
             Ok(()) => rest = after,
-            Err(fault) => return Err(fault),
+            Err(stop) => return Err(stop.fault(number)),
         }
     }
     Ok(layout)
@@ -52,32 +53,29 @@ impl<'a> Layout<'a> {
         }
     }
 
-    /// Takes line `number`.
-    pub(crate) fn add_line(&mut self, number: u64, line: &'a [u8]) -> Result<(), AsmFault>
+    /// Takes a line.
+    pub(crate) fn add_line(&mut self, line: &'a [u8]) -> Result<(), Stop>
         requires { self.old.size ≤ 65536 }
         ensures said { (l : assembly.Layout) → IsLaid self.old l
-            → Comes (λ _ m. IsLaid self.new m) result (laid_line number (line_of line.now) l) }
+            → Takes (λ _ m. IsLaid self.new m) result (laid_line (line_of line.now) l) }
         ensures fits { IfOk result (λ _. self.new.size ≤ 65536) }
-        ensures left { IfErr result (λ fault. fault ≢ AsmFault.Memory → (l : assembly.Layout)
-            → IsLaid self.old l → Holds self.new.labels (labels_past number (line_of line.now) l)) }
+        ensures left { IfErr result (λ stop. stop ≢ Stop.Memory → (l : assembly.Layout)
+            → IsLaid self.old l → Holds self.new.labels (labels_past (line_of line.now) l)) }
     {
-        let line = match line_of(line) {
-            Some(line) => line,
-            None => return Err(AsmFault::Source(SourceFault::Syntax(number))),
-        };
-        self.add_label(number, line.label)?;
-        self.size = sized(number, self.size, line.statement)?;
+        let line = line_of(line).ok_or(Cause::Syntax)?;
+        self.add_label(line.label)?;
+        self.size = sized(self.size, line.statement)?;
         Ok(())
     }
 
     /// Adds a label, where there is one, at the end of the image so far.
-    fn add_label(&mut self, number: u64, label: Option<&'a [u8]>) -> Result<(), AsmFault>
+    fn add_label(&mut self, label: Option<&'a [u8]>) -> Result<(), Stop>
         requires { self.old.size ≤ 65536 }
         ensures said { (labels : assembly.Labels) → Holds self.old.labels labels
-            → Comes (λ _ more. Holds self.new.labels more) result
-            (labelled number self.old.size (option_map (λ t. t.now) label.entry) labels) }
+            → Takes (λ _ more. Holds self.new.labels more) result
+            (labelled self.old.size (option_map (λ t. t.now) label.entry) labels) }
         ensures size { self.new.size ≡ self.old.size }
-        ensures left { IfErr result (λ fault. fault ≢ AsmFault.Memory → self.new ≡ self.old) }
+        ensures left { IfErr result (λ stop. stop ≢ Stop.Memory → self.new ≡ self.old) }
     {
         let name = match label {
             Some(name) => name,
@@ -85,29 +83,28 @@ impl<'a> Layout<'a> {
         };
         let is_new = self.labels.add(name, ORIGIN + self.size)?;
         if !is_new {
-            return Err(AsmFault::Source(SourceFault::DoubleLabel(number)));
+            return Err(Stop::Refused(Cause::DoubleLabel));
         }
         Ok(())
     }
 }
 
 /// The size of the image with a statement, where there is one.
-fn sized(number: u64, at: u32, statement: Option<Statement<'_>>) -> Result<u32, AsmFault>
+fn sized(at: u32, statement: Option<Statement<'_>>) -> Result<u32, Cause>
     requires { at ≤ 65536 }
-    ensures said { Assembles (λ s. s) result
-        (sized number at (option_map plain_statement statement.entry)) }
+    ensures said { result ≡ sized at (option_map plain_statement statement.entry) }
     ensures fits { IfOk result (λ s. s ≤ 65536) }
 {
     let statement = match statement {
         Some(statement) => statement,
         None => return Ok(at),
     };
-    if let Some(_) = statement.cause_at(u64::from(at)) {
-        return Err(AsmFault::Source(SourceFault::Range(number)));
+    if let Some(cause) = statement.cause_at(u64::from(at)) {
+        return Err(cause);
     }
     let end = u64::from(at) + statement.size();
-    if end > MOST_BYTES {
-        return Err(AsmFault::Source(SourceFault::TooLong(number)));
+    if end > u64::from(MOST_BYTES) {
+        return Err(Cause::TooLong);
     }
     Ok(end as u32)
 }

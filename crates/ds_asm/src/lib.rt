@@ -21,8 +21,8 @@ mod source;
 pub use assembler::assemble;
 pub use cause::Cause;
 pub use characters::{
-    is_blank, is_digit, is_letter, is_name, split_at_first, trimmed, until, without_back_blanks,
-    without_front_blanks,
+    front_of, is_blank, is_digit, is_letter, is_name, split_at_first, trimmed, until,
+    without_back_blanks, without_front_blanks,
 };
 pub use fault::{AsmFault, SourceFault};
 pub use faults::{Assembled, all_faults, assemble_or_faults};
@@ -30,7 +30,7 @@ pub use form::{Form, Operand, Place, form_named};
 pub use image::Image;
 pub use instruction::{Instruction, Target, before_close, has_comma};
 pub use layout::ORIGIN;
-pub use line::{Line, Statement, line_of, split_word, statement_named};
+pub use line::{Directive, Line, Statement, directive_named, line_of, split_word, statement_named};
 pub use number::{Bounds, Number, written_number};
-pub use register::register_of;
+pub use register::{register_name, register_of};
 pub use source::{SourceLine, first_line, source_line};

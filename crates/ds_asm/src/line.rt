@@ -3,8 +3,8 @@ ghost use Rattle.std.specs.Prelude.{◌≡◌, ◌≤◌, option_map, length};
 ghost use Rattle.std.specs.List.{position_or_len};
 ghost use Rattle.ds_asm.specs.Characters.{is_blank};
 ghost use Rattle.ds_asm.specs.Numbers.{written_number};
-ghost use Rattle.ds_asm.specs.Lines.{mnemonic_of, after_word, number_word, instruction_named, statement_named, statement_of, statement_in, with_statement, line_parts, line_of};
-ghost use Rattle.ds_asm.specs.Assembly.{bounds_in, cause_at, cause_by, is_reserved_word, is_in_range, is_word_aligned, statement_size};
+ghost use Rattle.ds_asm.specs.Lines.{mnemonic_of, after_word, number_word, instruction_named, directive_named, statement_named, statement_of, statement_in, with_statement, line_parts, line_of};
+ghost use Rattle.ds_asm.specs.Assembly.{bounds_in, cause_at, has_reserved, is_reserved_word, is_word_aligned, statement_size};
 ghost use Rattle.ds_asm.specs.Inner.Plain.{plain_instruction, plain_statement, plain_line};
 
 use crate::cause::Cause;
@@ -15,13 +15,21 @@ use crate::number::{Bounds, Number, written_number};
 use ds_isa::{Instr, decode};
 
 /// The most bytes that an image has.
-pub(crate) const MOST_BYTES: u64 = 65_536;
+pub(crate) const MOST_BYTES: u32 = 65_536;
 
 /// What a line says.
 #[derive(Clone, Copy)]
 pub struct Line<'a> {
     pub label: Option<&'a [u8]>,
     pub statement: Option<Statement<'a>>,
+}
+
+/// What begins a statement that is no instruction.
+#[derive(Clone, Copy, Debug, PartialEq, Eq)]
+pub enum Directive {
+    Word,
+    Byte,
+    Space,
 }
 
 /// What becomes bytes.
@@ -41,10 +49,14 @@ impl<'a> Statement<'a> {
     pub fn cause_at(&self, at: u64) -> Option<Cause>
         ensures { result ≡ cause_at at (plain_statement self.now) }
     {
-        if self.is_in_range() && self.is_word_aligned(at) {
-            None
+        if let Some(bounds) = self.bounds() {
+            Some(Cause::OutOfRange(bounds))
+        } else if !self.is_word_aligned(at) {
+            Some(Cause::NotAligned)
+        } else if self.has_reserved() {
+            Some(Cause::Reserved)
         } else {
-            Some(cause_by(at, self.bounds()))
+            None
         }
     }
 
@@ -57,19 +69,17 @@ impl<'a> Statement<'a> {
             Statement::Word(number) => number.out_of_range(0x8000_0000, 0xFFFF_FFFF),
             Statement::WordOf(_) => None,
             Statement::Byte(number) => number.out_of_range(128, 255),
-            Statement::Space(number) => number.out_of_range(0, 65_536),
+            Statement::Space(number) => number.out_of_range(0, MOST_BYTES),
         }
     }
 
-    fn is_in_range(&self) -> bool
-        ensures { result ≡ is_in_range (plain_statement self.now) }
+    /// Whether it is an instruction with registers that it may not have.
+    fn has_reserved(&self) -> bool
+        ensures { result ≡ has_reserved (plain_statement self.now) }
     {
         match self {
-            Statement::Instruction(i) => i.out_of_range.is_none() && !is_reserved_word(i.word),
-            Statement::Word(number) => number.fits_bounds(0x8000_0000, 0xFFFF_FFFF),
-            Statement::WordOf(_) => true,
-            Statement::Byte(number) => number.fits_bounds(128, 255),
-            Statement::Space(number) => number.fits_bounds(0, MOST_BYTES),
+            Statement::Instruction(instruction) => is_reserved_word(instruction.word),
+            _ => false,
         }
     }
 
@@ -92,18 +102,6 @@ impl<'a> Statement<'a> {
             Statement::Byte(_) => 1,
             Statement::Space(number) => number.magnitude,
         }
-    }
-}
-
-/// Why a statement is refused at a place, by the bounds of its number that is out of range, where
-/// it has one.
-fn cause_by(at: u64, bounds: Option<Bounds>) -> Cause
-    ensures { result ≡ cause_by at bounds }
-{
-    match bounds {
-        Some(bounds) => Cause::OutOfRange(bounds),
-        None if at % 4 == 0 => Cause::Reserved,
-        None => Cause::NotAligned,
     }
 }
 
@@ -189,19 +187,33 @@ fn word_len(text: &[u8]) -> usize
 }
 
 /// The statement of a mnemonic and of what stands after it.
+#[inline(always)]
 #[tactic(auto, unfolding(crate::specs::Lines::statement_named))]
 pub fn statement_named<'a>(name: &[u8], left: Option<&'a [u8]>) -> Option<Statement<'a>>
     ensures { option_map plain_statement result
         ≡ statement_named name.now (option_map (λ t. t.now) left.entry) }
 {
+    match directive_named(name) {
+        Some(Directive::Word) => word_statement(left?),
+        Some(Directive::Byte) => Some(Statement::Byte(written_number(left?)?)),
+        Some(Directive::Space) => Some(Statement::Space(written_number(left?)?)),
+        None => Some(Statement::Instruction(instruction_named(name, left)?)),
+    }
+}
+
+/// The directive of a name.
+#[inline(always)]
+pub fn directive_named(name: &[u8]) -> Option<Directive>
+    ensures { result ≡ directive_named name.now }
+{
     if name == b".word".as_slice() {
-        word_statement(left?)
+        Some(Directive::Word)
     } else if name == b".byte".as_slice() {
-        Some(Statement::Byte(written_number(left?)?))
+        Some(Directive::Byte)
     } else if name == b".space".as_slice() {
-        Some(Statement::Space(written_number(left?)?))
+        Some(Directive::Space)
     } else {
-        Some(Statement::Instruction(instruction_named(name, left)?))
+        None
     }
 }
 

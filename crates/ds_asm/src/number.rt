@@ -12,7 +12,7 @@ pub struct Number {
 }
 
 /// From where to where a number may be.
-#[derive(Clone, Copy, Debug, PartialEq, Eq)]
+#[derive(Clone, Copy, Debug, PartialEq, Eq, Drop)]
 pub struct Bounds {
     /// How far below 0 it may be.
     pub least: u32,

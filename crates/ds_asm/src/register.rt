@@ -1,6 +1,6 @@
 //! Registers of a source.
-ghost use Rattle.std.specs.Prelude.{◌≡◌, ◌<◌, map, position, bytes_eq, IfSome, length};
-ghost use Rattle.ds_asm.specs.RegisterNames.{register_names, register_numbered, register_named, register_of, system_register_of};
+ghost use Rattle.std.specs.Prelude.{◌≡◌, ◌<◌, [], map, position, bytes_eq, slice_get, unwrap_or, IfSome, length};
+ghost use Rattle.ds_asm.specs.RegisterNames.{register_name, register_names, register_numbered, register_named, register_of, system_register_of};
 
 use crate::characters::is_digit;
 
@@ -10,6 +10,23 @@ static NAMES: [&str; 32] = [
     "t7", "s0", "s1", "s2", "s3", "s4", "s5", "s6", "s7", "t8", "t9", "k0", "k1", "gp", "sp", "fp",
     "ra",
 ];
+
+/// The common name of a register; an empty one past 31.
+pub fn register_name(number: usize) -> &'static str
+    ensures { result.now ≡ register_name number }
+{
+    name_at(NAMES.as_slice(), number)
+}
+
+#[tactic(auto, using(crate::proofs::Names::name_some, crate::proofs::Names::name_none))]
+fn name_at(names: &'static [&'static str], number: usize) -> &'static str
+    ensures { result.now ≡ unwrap_or (slice_get (map (λ t. t.now) names.now) number) [] }
+{
+    match names.get(number) {
+        Some(name) => name,
+        None => "",
+    }
+}
 
 /// The number of a general register: `$` and a number from 0 to 31, or a name.
 pub fn register_of(text: &[u8]) -> Option<u32>

@@ -1,12 +1,13 @@
 //! The second pass: the bytes of the lines, where the labels are known.
 ghost use Rattle.std.specs.Prelude.{◌≡◌, ◌++◌, ◌∷◌, [], OnOk, Ok, Some, None, length, replicate};
 ghost use Rattle.ds_word.specs.Bytes.{bytes_of_word};
-ghost use Rattle.ds_asm.specs.Inner.Assembling.{Assembles, Comes, held_address};
+ghost use Rattle.ds_asm.specs.Inner.Assembling.{Assembles, Takes, held_address};
 ghost use Rattle.ds_asm.specs.Assembly.{branch_field, jump_field, known, resolved, statement_bytes, line_bytes, bytes_from, lines_of};
 ghost use Rattle.ds_asm.specs.Lines.{line_of};
 ghost use Rattle.ds_asm.specs.Inner.Plain.{plain_target, plain_instruction, plain_statement};
 
-use crate::fault::{AsmFault, SourceFault};
+use crate::cause::{Cause, Stop};
+use crate::fault::AsmFault;
 use crate::form::Place;
 use crate::instruction::{Instruction, Target};
 use crate::labels::Labels;
@@ -31,52 +32,46 @@ pub(crate) fn bytes_of<'a>(
     while !rest.is_empty() {
         let (line, after) = first_line(rest);
         number += 1;
-        match add_line(&mut bytes, number, labels, line) {
+        match add_line(&mut bytes, labels, line) {
             Ok(()) => rest = after,
-            Err(fault) => return Err(fault),
+            Err(stop) => return Err(stop.fault(number)),
         }
     }
     Ok(bytes)
 }
 
-/// Adds the bytes of line `number`.
-fn add_line<'a>(
-    bytes: &mut Vec<u8>,
-    number: u64,
-    labels: &Labels<'a>,
-    line: &'a [u8],
-) -> Result<(), AsmFault>
-    ensures { Comes (λ _ more. bytes.new.items ≡ bytes.old.items ++ more) result
-        (line_bytes number (held_address labels.now) (length bytes.old.items) (line_of line.now)) }
+/// Adds the bytes of a line.
+fn add_line<'a>(bytes: &mut Vec<u8>, labels: &Labels<'a>, line: &'a [u8]) -> Result<(), Stop>
+    ensures { Takes (λ _ more. bytes.new.items ≡ bytes.old.items ++ more) result
+        (line_bytes (held_address labels.now) (length bytes.old.items) (line_of line.now)) }
 {
     match line_of(line) {
         None => Ok(()),
         Some(line) => match line.statement {
             None => Ok(()),
-            Some(statement) => add_statement(bytes, number, labels, &statement),
+            Some(statement) => add_statement(bytes, labels, &statement),
         },
     }
 }
 
 fn add_statement<'a>(
     bytes: &mut Vec<u8>,
-    number: u64,
     labels: &Labels<'a>,
     statement: &Statement<'a>,
-) -> Result<(), AsmFault>
-    ensures { Comes (λ _ more. bytes.new.items ≡ bytes.old.items ++ more) result
-        (statement_bytes number (held_address labels.now) (length bytes.old.items)
+) -> Result<(), Stop>
+    ensures { Takes (λ _ more. bytes.new.items ≡ bytes.old.items ++ more) result
+        (statement_bytes (held_address labels.now) (length bytes.old.items)
         (plain_statement statement.now)) }
 {
     match statement {
         Statement::Instruction(instruction) => {
             let slot = u64::from(ORIGIN) + bytes.len() as u64 + 4;
-            let word = resolved(number, labels, slot, instruction)?;
+            let word = resolved(labels, slot, instruction)?;
             add_word(bytes, word)?;
         }
         Statement::Word(value) => add_word(bytes, value.as_word())?,
         Statement::WordOf(name) => {
-            let address = known(number, labels, name)?;
+            let address = known(labels, name)?;
             add_word(bytes, address)?;
         }
         Statement::Byte(value) => bytes.push((value.as_word() % 256) as u8)?,
@@ -87,43 +82,35 @@ fn add_statement<'a>(
 
 /// The word of an instruction whose slot has an address.
 pub(crate) fn resolved<'a>(
-    number: u64,
     labels: &Labels<'a>,
     slot: u64,
     instruction: &Instruction<'a>,
-) -> Result<u32, SourceFault>
-    ensures { result ≡ resolved number (held_address labels.now) slot
+) -> Result<u32, Cause>
+    ensures { result ≡ resolved (held_address labels.now) slot
         (plain_instruction instruction.now) (plain_target instruction.now.target) }
 {
     let (place, field) = match instruction.target {
         Target::Nowhere => return Ok(instruction.word),
         Target::Branch(name) => {
-            let address = known(number, labels, name)?;
+            let address = known(labels, name)?;
             (Place::Immediate, branch_field(slot, address))
         }
         Target::Jump(name) => {
-            let address = known(number, labels, name)?;
+            let address = known(labels, name)?;
             (Place::Target, jump_field(slot, address))
         }
     };
     match field {
         Some(field) => Ok(instruction.with_value(place, field).word),
-        None => Err(SourceFault::Range(number)),
+        None => Err(Cause::OutOfReach),
     }
 }
 
 /// The address of a label that has to stand somewhere.
-pub(crate) fn known<'a>(
-    number: u64,
-    labels: &Labels<'a>,
-    name: &'a [u8],
-) -> Result<u32, SourceFault>
-    ensures { result ≡ known number (held_address labels.now name.now) }
+pub(crate) fn known<'a>(labels: &Labels<'a>, name: &'a [u8]) -> Result<u32, Cause>
+    ensures { result ≡ known (held_address labels.now name.now) }
 {
-    match labels.address_of(name) {
-        Some(address) => Ok(address),
-        None => Err(SourceFault::UnknownLabel(number)),
-    }
+    labels.address_of(name).ok_or(Cause::UnknownLabel)
 }
 
 /// How many words lie between a slot and an address, in 16 bits, if they suffice.

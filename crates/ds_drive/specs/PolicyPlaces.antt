@@ -1,5 +1,6 @@
 -- Where in its text the key or the item stands for which a policy is refused.
 use Rattle.std.specs.Prelude.{codes, ℕ, List, Option, None, Some}
+use Rattle.std.specs.Option.{option_or}
 use Rattle.ds_check.specs.declared.items.Items.{Items}
 use Rattle.ds_check.specs.declared.items.Items.TheVariants.{Processes, Pages, Rules}
 use Rattle.ds_check.specs.declared.places.Place.{Place}
@@ -13,7 +14,6 @@ use Rattle.ds_policy.specs.declared.cause.RuleCause.TheVariants as rule
 use Rattle.ds_policy.specs.declared.cause.PolicyReason.{PolicyReason}
 use Rattle.ds_policy.specs.declared.cause.PolicyReason.TheVariants as reason
 use Rattle.ds_policy_reasons.specs.Keys.{OddKey, odd_key}
-use Rattle.ds_source_reasons.specs.Reasons.{or_next}
 
 -- the key of a process that a cause is of
 abbrev pub process_key : ProcessCause → Option (List ℕ)
@@ -50,7 +50,7 @@ rule_key rule.FifthRegion = Some (codes "address")
 
 -- where the key of an array stands, or else the item of this number
 abbrev pub array_place : List ℕ → List ℕ → Items → ℕ → Option Place
-array_place text key items number = or_next (root_key_place text key) (item_place text items number None)
+array_place text key items number = option_or (root_key_place text key) (item_place text items number None)
 
 -- where a process stands, or its key; what is no table stands in an array with a key
 abbrev pub process_place : List ℕ → ℕ → ProcessCause → Option Place
@@ -81,7 +81,7 @@ reason_place text reason.BadFrames = root_key_place text (codes "frames")
 reason_place text reason.BadRate = root_key_place text (codes "rate")
 reason_place text reason.ProcessCount = array_place text (codes "process") Processes 101
 reason_place text (reason.Process number cause) = process_place text number cause
-reason_place text reason.PageCount = or_next (root_key_place text (codes "page")) (root_key_place text (codes "frames"))
+reason_place text reason.PageCount = option_or (root_key_place text (codes "page")) (root_key_place text (codes "frames"))
 reason_place text (reason.Page number cause) = page_place text number cause
 reason_place text reason.RuleCount = array_place text (codes "rule") Rules 1000
 reason_place text (reason.Rule number cause) = rule_place text number cause

@@ -1,5 +1,6 @@
 -- What standard error is told: of a failure, of a fault of a source, and of a check that is refused.
 use Rattle.std.specs.Prelude.{ℕ, ◌-◌, List, [], ◌∷◌, ◌++◌, Option, None, Some, codes, decimal, option_map, slice_get, take}
+use Rattle.std.specs.Option.{option_or}
 use Rattle.ds_asm.specs.declared.fault.SourceFault.{SourceFault}
 use Rattle.ds_asm.specs.declared.fault.SourceFault.TheVariants.{Syntax, UnknownLabel, DoubleLabel, Range, TooLong}
 use Rattle.ds_asm.specs.Assembling.{source_fault_line, source_fault_name, source_fault_number}
@@ -14,7 +15,6 @@ use Rattle.ds_policy.specs.declared.cause.PolicyReason.{PolicyReason}
 use Rattle.ds_policy.specs.declared.cause.PolicyReason.TheVariants as reason
 use Rattle.ds_source_reasons.specs.Carets.{caret_place}
 use Rattle.ds_source_reasons.specs.Missing.{last_word, last_word_place, like_label, missing_text}
-use Rattle.ds_source_reasons.specs.Reasons.{or_next}
 use Rattle.ds_source_reasons.specs.Told.{FaultReason, after_line, after_lines, fault_text, line_in, fault_reason_at}
 use Rattle.ds_station.specs.declared.fault.Fault.{Fault}
 use Rattle.ds_station.specs.declared.fault.Fault.TheVariants as fault
@@ -223,11 +223,11 @@ why_input (Some input) = option_map input_cause_text input.cause
 
 -- why a check is refused, where a reason is known: of a source, of a policy, or of an input
 abbrev pub reason_told : Refused → Option (List ℕ)
-reason_told r = or_next (why_source r.source) (or_next (option_map why_policy r.reason) (why_input r.input))
+reason_told r = option_or (why_source r.source) (option_or (option_map why_policy r.reason) (why_input r.input))
 
 -- that reason with what to write; or how a refusal of this number is mended, where no reason is known
 abbrev pub reason_or_mending : Refused → List ℕ
-reason_or_mending r = text_or_none (or_next (reason_told r) (mended (failure_number r.failure)))
+reason_or_mending r = text_or_none (option_or (reason_told r) (mended (failure_number r.failure)))
 
 -- the same, and what is told of the policy besides
 abbrev pub why_told : Refused → List ℕ

@@ -1,5 +1,5 @@
 //! The faults of a source, told a line each.
-ghost use Rattle.std.specs.Prelude.{◌≡◌, ◌++◌, IfOk, OnOk, OnErr, option_map, take};
+ghost use Rattle.std.specs.Prelude.{◌≡◌, ◌++◌, IfOk, OnOk, OnErr, option_map};
 ghost use Rattle.std.specs.Io.KnownBytes.{Appends};
 ghost use Rattle.ds_drive.specs.Told.{at_end, caret_below, fault_head, fault_name, fault_shown_in, label_told, mending_of, pass, plain_place, reason_after, told_below, fault_line, told_lines, wrong_place};
 ghost use Rattle.ds_drive.specs.Inner.Told.{passed_in};
@@ -9,7 +9,7 @@ ghost use Rattle.ds_log.specs.Sent.{AppendsPart, IsAskedOnce};
 ghost use Rattle.ds_source_reasons.specs.Inner.Told.{plain_fault};
 
 use crate::why::push_mending;
-use ds_asm::{SourceFault, first_line};
+use ds_asm::{SourceFault, first_line, front_of};
 use ds_check::{Lines, push_caret};
 use ds_log::{Output, WriteFailed, send};
 use ds_source_reasons::{
@@ -273,19 +273,8 @@ pub(crate) fn push_caret_at(
     ensures { OnOk result (sheet.new.items ≡ sheet.old.items ++ caret_below line.now place) }
 {
     match place {
-        Some(place) => push_caret(sheet, front_of(line, place)),
+        Some(place) => push_caret(sheet, front_of(place, line)),
         None => Ok(()),
-    }
-}
-
-/// So much of a line, or all where it has less.
-fn front_of(line: &[u8], most: usize) -> &[u8]
-    ensures { result.now ≡ take most line.now }
-{
-    if most < line.len() {
-        &line[..most]
-    } else {
-        line
     }
 }
 

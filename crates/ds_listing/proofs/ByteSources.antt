@@ -10,7 +10,7 @@ use Rattle.ds_word.specs.ResultBinding.{◌>>=◌}
 use Rattle.ds_asm.specs.Numbers.{written_number}
 use Rattle.ds_asm.specs.Lines.{Byte, statement_named, statement_of, line_of}
 use Rattle.ds_asm.specs.Inner.Lines.{nothing}
-use Rattle.ds_asm.specs.Assembly.{empty_layout, most_bytes, laid_line, laid_lines, line_bytes, bytes_from, lines_of, label_address, assembled}
+use Rattle.ds_asm.specs.Assembly.{at_line, empty_layout, most_bytes, laid_line, laid_lines, line_bytes, bytes_from, lines_of, label_address, assembled}
 use Rattle.ds_asm.proofs.SourceLines.{lines_of-first}
 use Rattle.ds_listing.specs.Inner.Laws.{alone, AreSaid}
 use Rattle.ds_listing.specs.Texts.{text_of}
@@ -56,14 +56,14 @@ byte_one_line : (b : ℕ) → b < 256 → list_all (is_other 10) (byte_text b) �
 byte_one_line b l = all_both (is_other 10) (codes ".byte ") (codes "0x" ++ hex2 b) refl (all_weaker is_inside (is_other 10) inside_line (codes "0x" ++ hex2 b) (hex2_inside b l))
 
 -- both passes over it
-byte_laid : (n at b : ℕ) → b < 256 → at + 1 ≤ 65536 → laid_line n (line_of (byte_text b)) (plain_layout at) ≡ Ok (plain_layout (at + 1))
-byte_laid n at b l room =
+byte_laid : (at b : ℕ) → b < 256 → at + 1 ≤ 65536 → laid_line (line_of (byte_text b)) (plain_layout at) ≡ Ok (plain_layout (at + 1))
+byte_laid at b l room =
     let fits : nat_lt most_bytes (at + 1) ≡ false = le-ltb _ _ (omega arith) in
     let good : nat_le b 255 ≡ true = le-leb b 255 (omega arith) in
-    ap (λ x. laid_line n x (plain_layout at)) (byte_said b l) ∙ (rw (good, fits) refl)
+    ap (λ x. laid_line x (plain_layout at)) (byte_said b l) ∙ (rw (good, fits) refl)
 
-byte_added : (n at b : ℕ) (find : List ℕ → Option ℕ) → b < 256 → line_bytes n find at (line_of (byte_text b)) ≡ Ok (b ∷ [])
-byte_added n at b find l = ap (line_bytes n find at) (byte_said b l) ∙ ap (λ (k : ℕ). Ok (k ∷ [])) (omega arith)
+byte_added : (at b : ℕ) (find : List ℕ → Option ℕ) → b < 256 → line_bytes find at (line_of (byte_text b)) ≡ Ok (b ∷ [])
+byte_added at b find l = ap (line_bytes find at) (byte_said b l) ∙ ap (λ (k : ℕ). Ok (k ∷ [])) (omega arith)
 
 -- the first of lines
 line_before : (text rest : List ℕ) → list_all (is_other 10) text ≡ true → lines_of (text ++ 10 ∷ rest) ≡ text ∷ lines_of rest
@@ -82,13 +82,13 @@ lines_of_left (b ∷ bytes) small =
 left_laid : (n at : ℕ) (bytes : List ℕ) → All (λ b. b < 256) bytes → at + length bytes ≤ 65536 → laid_lines n (plain_layout at) (map byte_text bytes) ≡ Ok (plain_layout (at + length bytes))
 left_laid n at [] small room = ap (λ (k : ℕ). Ok (plain_layout k)) (omega arith)
 left_laid n at (b ∷ bytes) small room =
-    ap (λ r. r >>= (λ more. laid_lines (n + 1) more (map byte_text bytes))) (byte_laid n at b (All-head (λ b. b < 256) b bytes small) (omega arith))
+    ap (λ r. at_line n r >>= (λ more. laid_lines (n + 1) more (map byte_text bytes))) (byte_laid at b (All-head (λ b. b < 256) b bytes small) (omega arith))
     ∙ (left_laid (n + 1) (at + 1) bytes (All-tail (λ b. b < 256) b bytes small) (omega arith) ∙ ap (λ (k : ℕ). Ok (plain_layout k)) (omega arith))
 
 left_added : (n : ℕ) (find : List ℕ → Option ℕ) (before bytes : List ℕ) → All (λ b. b < 256) bytes → bytes_from n find before (map byte_text bytes) ≡ Ok (before ++ bytes)
 left_added n find before [] small = ap (λ bs. Ok bs) (sym (append-nil before))
 left_added n find before (b ∷ bytes) small =
-    ap (λ r. r >>= (λ more. bytes_from (n + 1) find (before ++ more) (map byte_text bytes))) (byte_added n (length before) b find (All-head (λ b. b < 256) b bytes small))
+    ap (λ r. at_line n r >>= (λ more. bytes_from (n + 1) find (before ++ more) (map byte_text bytes))) (byte_added (length before) b find (All-head (λ b. b < 256) b bytes small))
     ∙ (left_added (n + 1) find (before ++ b ∷ []) bytes (All-tail (λ b. b < 256) b bytes small) ∙ ap (λ bs. Ok bs) (append_assoc before (b ∷ []) bytes))
 
 -- the lines of the text of bytes
@@ -112,7 +112,7 @@ source_laid n at (a ∷ b ∷ []) said even room = left_laid n at (a ∷ b ∷ [
 source_laid n at (a ∷ b ∷ c ∷ []) said even room = left_laid n at (a ∷ b ∷ c ∷ []) said room
 source_laid n at (a ∷ b ∷ c ∷ d ∷ bytes) said even room =
     let w = word_of_bytes a b c d in
-    ap (λ r. r >>= (λ more. laid_lines (n + 1) more (lines_in bytes))) (word_laid n at w (line_of (text_of w)) said.0.read.says even (omega arith))
+    ap (λ r. at_line n r >>= (λ more. laid_lines (n + 1) more (lines_in bytes))) (word_laid at w (line_of (text_of w)) said.0.read.says even (omega arith))
     ∙ (source_laid (n + 1) (at + 4) bytes said.1 (omega arith) (omega arith) ∙ ap (λ (k : ℕ). Ok (plain_layout k)) (omega arith))
 
 source_added : (n : ℕ) (find : List ℕ → Option ℕ) (before bytes : List ℕ) → AreSaid bytes → bytes_from n find before (lines_in bytes) ≡ Ok (before ++ bytes)
@@ -122,7 +122,7 @@ source_added n find before (a ∷ b ∷ []) said = left_added n find before (a �
 source_added n find before (a ∷ b ∷ c ∷ []) said = left_added n find before (a ∷ b ∷ c ∷ []) said
 source_added n find before (a ∷ b ∷ c ∷ d ∷ bytes) said =
     let w = word_of_bytes a b c d in
-    ap (λ r. r >>= (λ more. bytes_from (n + 1) find (before ++ more) (lines_in bytes))) (word_added n w (length before) find (line_of (text_of w)) said.0.read.says ∙ ap (λ bs. Ok bs) said.0.bytes)
+    ap (λ r. at_line n r >>= (λ more. bytes_from (n + 1) find (before ++ more) (lines_in bytes))) (word_added w (length before) find (line_of (text_of w)) said.0.read.says ∙ ap (λ bs. Ok bs) said.0.bytes)
     ∙ (source_added (n + 1) find (before ++ a ∷ b ∷ c ∷ d ∷ []) bytes said.1 ∙ ap (λ bs. Ok bs) (append_assoc before (a ∷ b ∷ c ∷ d ∷ []) bytes))
 
 -- the text of bytes, as many as an image holds, says them
@@ -136,9 +136,9 @@ bytes_read bytes said few =
 commented_read : (line bytes : List ℕ) → list_all (is_other 10) line ≡ true → line_of line ≡ Some nothing → AreSaid bytes → length bytes ≤ 65536 → assembled (line ++ 10 ∷ source_of_bytes bytes) ≡ Ok bytes
 commented_read line bytes one none said few =
     ap (λ ls. laid_lines 1 empty_layout ls >>= (λ layout. bytes_from 1 (label_address layout.labels) [] ls)) (line_before line (source_of_bytes bytes) one ∙ ap (λ ls. line ∷ ls) (lines_of_source bytes said))
-    ∙ (ap (λ x. (laid_line 1 x empty_layout >>= (λ more. laid_lines 2 more (lines_in bytes))) >>= (λ layout. bytes_from 1 (label_address layout.labels) [] (line ∷ lines_in bytes))) none
+    ∙ (ap (λ x. (at_line 1 (laid_line x empty_layout) >>= (λ more. laid_lines 2 more (lines_in bytes))) >>= (λ layout. bytes_from 1 (label_address layout.labels) [] (line ∷ lines_in bytes))) none
     ∙ (ap (λ r. r >>= (λ layout. bytes_from 1 (label_address layout.labels) [] (line ∷ lines_in bytes))) (source_laid 2 0 bytes said refl (omega arith))
-    ∙ (ap (λ x. line_bytes 1 (label_address []) 0 x >>= (λ more. bytes_from 2 (label_address []) ([] ++ more) (lines_in bytes))) none
+    ∙ (ap (λ x. at_line 1 (line_bytes (label_address []) 0 x) >>= (λ more. bytes_from 2 (label_address []) ([] ++ more) (lines_in bytes))) none
     ∙ source_added 2 (label_address []) [] bytes said)))
 
 -- the comment says nothing

@@ -6,11 +6,11 @@ use Rattle.std.proofs.lemmas.Grind.{flat_map-append}
 use Rattle.std.proofs.lemmas.List.{reverse-append}
 use Rattle.std.proofs.Math.Seq.{take-append_seam}
 use Rattle.ds_word.proofs.ResultBinding.{bind_ok}
-use Rattle.ds_asm.specs.declared.fault.SourceFault.TheVariants.{DoubleLabel}
+use Rattle.ds_asm.specs.declared.cause.Cause.TheVariants.{DoubleLabel}
 use Rattle.ds_asm.specs.Lines.{Line, line_of}
-use Rattle.ds_asm.specs.Assembly.{Labels, Layout, empty_layout, origin, label_address, labelled, sized, laid_line, laid_lines, line_bytes, bytes_from, lines_of, assembled}
+use Rattle.ds_asm.specs.Assembly.{at_line, Labels, Layout, empty_layout, origin, label_address, labelled, sized, laid_line, laid_lines, line_bytes, bytes_from, lines_of, assembled}
 use Rattle.ds_asm.specs.Faults.{label_in, size_in}
-use Rattle.ds_asm.proofs.ImageSizes.{laid_size, line_length}
+use Rattle.ds_asm.proofs.ImageSizes.{laid_size, line_good, line_length}
 use Rattle.ds_listing.specs.Listing.{ListedLine, rows_from, rows_of, label_line_text, row_text, rows_text}
 use Rattle.ds_listing.specs.Inner.Listing.{value_text, EndsWithLabels}
 use Rattle.ds_listing.proofs.Listings.{drop_seam}
@@ -36,21 +36,21 @@ values_said (r ∷ rows) =
     ∙ sym (flat_map-append value_text (value_at r.place r.label) (values_of rows)))
 
 -- a label that is let in
-named_by : (b : Bool) (n at : ℕ) (name : List ℕ) (labels more : Labels) → (if b then Err (DoubleLabel n) else Ok ((name, origin + at) ∷ labels)) ≡ Ok more → more ≡ (name, origin + at) ∷ labels
-named_by true n at name labels more h = cc
-named_by false n at name labels more h = cc
+named_by : (b : Bool) (at : ℕ) (name : List ℕ) (labels more : Labels) → (if b then Err DoubleLabel else Ok ((name, origin + at) ∷ labels)) ≡ Ok more → more ≡ (name, origin + at) ∷ labels
+named_by true at name labels more h = cc
+named_by false at name labels more h = cc
 
-label_named : (n at : ℕ) (label : Option (List ℕ)) (labels more : Labels) → labelled n at label labels ≡ Ok more → more ≡ value_at at label ++ labels
-label_named n at None labels more h = cc
-label_named n at (Some name) labels more h = named_by (is_some (label_address labels name)) n at name labels more h
+label_named : (at : ℕ) (label : Option (List ℕ)) (labels more : Labels) → labelled at label labels ≡ Ok more → more ≡ value_at at label ++ labels
+label_named at None labels more h = cc
+label_named at (Some name) labels more h = named_by (is_some (label_address labels name)) at name labels more h
 
-line_named : (n : ℕ) (m next : Layout) (x : Option Line) → laid_line n x m ≡ Ok next → next.labels ≡ value_at m.size (label_in x) ++ m.labels
-line_named n m next None h = cc
-line_named n m next (Some line) h =
-    let (labels, a, b) = bind_ok (labelled n m.size line.label m.labels) _ next h in
-    let (size, c, d) = bind_ok (sized n m.size line.statement) (λ size. Ok (record { labels = labels; size = size })) next b in
+line_named : (m next : Layout) (x : Option Line) → laid_line x m ≡ Ok next → next.labels ≡ value_at m.size (label_in x) ++ m.labels
+line_named m next None h = cc
+line_named m next (Some line) h =
+    let (labels, a, b) = bind_ok (labelled m.size line.label m.labels) _ next h in
+    let (size, c, d) = bind_ok (sized m.size line.statement) (λ size. Ok (record { labels = labels; size = size })) next b in
     let same : labels ≡ next.labels = (let e : record { labels = labels; size = size } ≡ next = cc in ap (λ (l : Layout). l.labels) e) in
-    sym same ∙ label_named n m.size line.label m.labels labels a
+    sym same ∙ label_named m.size line.label m.labels labels a
 
 reverse_value : (at : ℕ) (label : Option (List ℕ)) → reverse (value_at at label) ≡ value_at at label
 reverse_value at None = refl
@@ -76,16 +76,17 @@ lines_named n find bytes out [] m last few g h =
     let kept : m ≡ last = cc in
     ([], sym same ∙ sym (append-nil bytes), ap (λ (l : Layout). reverse l.labels) (sym kept) ∙ sym (append-nil (reverse m.labels)))
 lines_named n find bytes out (line ∷ lines) m last few g h =
-    let (next, u, v) = bind_ok (laid_line n (line_of line) m) (λ more. laid_lines (n + 1) more lines) last g in
-    let (more, a, b) = bind_ok (line_bytes n find (length bytes) (line_of line)) (λ more. bytes_from (n + 1) find (bytes ++ more) lines) out h in
-    let (grown, room) = laid_size n m next (line_of line) few u in
+    let (next, u, v) = bind_ok (at_line n (laid_line (line_of line) m)) (λ more. laid_lines (n + 1) more lines) last g in
+    let (more, a, b) = bind_ok (at_line n (line_bytes find (length bytes) (line_of line))) (λ more. bytes_from (n + 1) find (bytes ++ more) lines) out h in
+    let laid = line_good n _ u in
+    let (grown, room) = laid_size m next (line_of line) few laid in
     let (tail, e, named) = lines_named (n + 1) find (bytes ++ more) out lines next last room v b in
-    let long = line_length n find (length bytes) (line_of line) more a in
+    let long = line_length find (length bytes) (line_of line) more (line_good n _ a) in
     let here = value_at m.size (label_in (line_of line)) in (
       more ++ tail,
       e ∙ append_assoc bytes more tail,
       named
-          ∙ (ap (λ ls. ls ++ values_of (rows_from (n + 1) next.size tail lines)) (past_line m.size (label_in (line_of line)) m.labels next.labels (line_named n m next (line_of line) u))
+          ∙ (ap (λ ls. ls ++ values_of (rows_from (n + 1) next.size tail lines)) (past_line m.size (label_in (line_of line)) m.labels next.labels (line_named m next (line_of line) laid))
           ∙ (append_assoc (reverse m.labels) here (values_of (rows_from (n + 1) next.size tail lines))
           ∙ ap (λ vs. reverse m.labels ++ vs) (ap (λ (k : ℕ). here ++ values_of (rows_from (n + 1) k tail lines)) grown ∙ sym (row_named n m.size line lines more tail long)))),
     )

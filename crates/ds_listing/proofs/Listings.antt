@@ -5,9 +5,9 @@ use Rattle.std.proofs.lemmas.List.{length-replicate, take-append-drop}
 use Rattle.std.proofs.Math.Seq.{take-append_seam, drop-append-add}
 use Rattle.ds_word.proofs.ResultBinding.{bind_ok}
 use Rattle.ds_asm.specs.Lines.{Statement, Encoded, WordNumber, WordLabel, Byte, Space, Line, line_of}
-use Rattle.ds_asm.specs.Assembly.{empty_layout, label_address, laid_lines, statement_bytes, optional_bytes, line_bytes, bytes_from, lines_of, assembled}
+use Rattle.ds_asm.specs.Assembly.{at_line, empty_layout, label_address, laid_lines, statement_bytes, optional_bytes, line_bytes, bytes_from, lines_of, assembled}
 use Rattle.ds_asm.specs.Faults.{label_in, size_in}
-use Rattle.ds_asm.proofs.ImageSizes.{line_length, statement_length}
+use Rattle.ds_asm.proofs.ImageSizes.{line_good, line_length, statement_length}
 use Rattle.ds_listing.specs.Listing.{ListedLine, row_of, rows_from, rows_of}
 use Rattle.ds_listing.specs.Inner.Listing.{IsTold, Shows}
 
@@ -48,25 +48,25 @@ pub drop_seam : (xs ys : List ℕ) → drop (length xs) (xs ++ ys) ≡ ys
 drop_seam xs ys = ap (λ (k : ℕ). drop k (xs ++ ys)) (omega arith) ∙ drop-append-add xs ys 0
 
 -- and each line's are told
-statement_told : (n : ℕ) (find : List ℕ → Option ℕ) (at : ℕ) (s : Statement) (more : List ℕ) → statement_bytes n find at s ≡ Ok more → IsTold more
-statement_told n find at (Encoded i) more h = inr (inl (statement_length n find at (Encoded i) more h))
-statement_told n find at (WordNumber x) more h = inr (inl (statement_length n find at (WordNumber x) more h))
-statement_told n find at (WordLabel name) more h = inr (inl (statement_length n find at (WordLabel name) more h))
-statement_told n find at (Byte x) more h = inl (statement_length n find at (Byte x) more h)
-statement_told n find at (Space x) more h =
+statement_told : (find : List ℕ → Option ℕ) (at : ℕ) (s : Statement) (more : List ℕ) → statement_bytes find at s ≡ Ok more → IsTold more
+statement_told find at (Encoded i) more h = inr (inl (statement_length find at (Encoded i) more h))
+statement_told find at (WordNumber x) more h = inr (inl (statement_length find at (WordNumber x) more h))
+statement_told find at (WordLabel name) more h = inr (inl (statement_length find at (WordLabel name) more h))
+statement_told find at (Byte x) more h = inl (statement_length find at (Byte x) more h)
+statement_told find at (Space x) more h =
     let same : replicate x.magnitude 0 ≡ more = cc in
     inr (inr (subst (λ (ys : List ℕ). ys ≡ replicate (length ys) 0) same (ap (λ (k : ℕ). replicate k 0) (sym (length-replicate x.magnitude 0)))))
 
 none_told : IsTold []
 none_told = inr (inr refl)
 
-optional_told : (n : ℕ) (find : List ℕ → Option ℕ) (at : ℕ) (s : Option Statement) (more : List ℕ) → optional_bytes n find at s ≡ Ok more → IsTold more
-optional_told n find at None more h = let same : [] ≡ more = cc in subst IsTold same none_told
-optional_told n find at (Some s) more h = statement_told n find at s more h
+optional_told : (find : List ℕ → Option ℕ) (at : ℕ) (s : Option Statement) (more : List ℕ) → optional_bytes find at s ≡ Ok more → IsTold more
+optional_told find at None more h = let same : [] ≡ more = cc in subst IsTold same none_told
+optional_told find at (Some s) more h = statement_told find at s more h
 
-line_told : (n : ℕ) (find : List ℕ → Option ℕ) (at : ℕ) (x : Option Line) (more : List ℕ) → line_bytes n find at x ≡ Ok more → IsTold more
-line_told n find at None more h = let same : [] ≡ more = cc in subst IsTold same none_told
-line_told n find at (Some line) more h = optional_told n find at line.statement more h
+line_told : (find : List ℕ → Option ℕ) (at : ℕ) (x : Option Line) (more : List ℕ) → line_bytes find at x ≡ Ok more → IsTold more
+line_told find at None more h = let same : [] ≡ more = cc in subst IsTold same none_told
+line_told find at (Some line) more h = optional_told find at line.statement more h
 
 first_shown : (n at : ℕ) (line : List ℕ) (lines : List (List ℕ)) (more tail : List ℕ) → size_in (line_of line) ≡ length more → IsTold more
     → ((place : ℕ) → Shows (rows_from (n + 1) place tail lines) tail)
@@ -86,10 +86,11 @@ lines_shown n find bytes out [] h =
     let same : bytes ≡ out = cc in
     ([], sym same ∙ sym (append-nil bytes), λ at. record { bytes = refl; told = tt })
 lines_shown n find bytes out (line ∷ lines) h =
-    let (more, a, b) = bind_ok (line_bytes n find (length bytes) (line_of line)) (λ more. bytes_from (n + 1) find (bytes ++ more) lines) out h in
+    let (more, a, b) = bind_ok (at_line n (line_bytes find (length bytes) (line_of line))) (λ more. bytes_from (n + 1) find (bytes ++ more) lines) out h in
     let (tail, e, next) = lines_shown (n + 1) find (bytes ++ more) out lines b in
-    let long = line_length n find (length bytes) (line_of line) more a in
-    (more ++ tail, e ∙ append_assoc bytes more tail, λ at. first_shown n at line lines more tail (sym long) (line_told n find (length bytes) (line_of line) more a) next)
+    let good = line_good n _ a in
+    let long = line_length find (length bytes) (line_of line) more good in
+    (more ++ tail, e ∙ append_assoc bytes more tail, λ at. first_shown n at line lines more tail (sym long) (line_told find (length bytes) (line_of line) more good) next)
 
 pub image_shown : (text image : List ℕ) → assembled text ≡ Ok image → Shows (rows_of text image) image
 image_shown text image h =

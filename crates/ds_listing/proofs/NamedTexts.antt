@@ -1,24 +1,11 @@
 -- Texts with registers by their numbers are the plain texts.
-use Rattle.std.proofs.Common.{◌≡◌, ◌∙◌, ap, refl, ℕ, ◌<◌, List, [], ◌∷◌, length, map, Bor, Option, Some, None, arith}
-use Rattle.std.specs.Prelude.{slice_get, unwrap_or, option_map}
-use Rattle.std.proofs.lemmas.Option.{slice_get-map}
+use Rattle.std.proofs.Common.{◌≡◌, refl, ℕ, ◌<◌, List, [], ◌∷◌, length, arith}
 use Rattle.ds_listing.specs.declared.names.RegisterNames.{RegisterNames}
 use Rattle.ds_listing.specs.declared.names.RegisterNames.TheVariants.{Numbers}
 use Rattle.ds_listing.specs.NamedTexts.{text_as, bytes_as, file_as}
 use Rattle.ds_listing.specs.Sources.{byte_lines}
 use Rattle.ds_listing.specs.Inner.Sources.{source_of_file}
 use Rattle.ds_listing.specs.Texts.{text_of}
-
--- A name among names that are lent.
-
-module _ (names : List (Bor (List ℕ))) (n : ℕ) where
-  pub name_some : (name : Bor (List ℕ)) → slice_get names n ≡ Some name → unwrap_or (slice_get (map (λ t. t.now) names) n) [] ≡ name.now
-  name_some name is = ap (λ (o : Option (List ℕ)). unwrap_or o []) (slice_get-map (λ t. t.now) names n ∙ ap (option_map (λ t. t.now)) is)
-
-  pub name_none : slice_get names n ≡ None → unwrap_or (slice_get (map (λ t. t.now) names) n) [] ≡ []
-  name_none is = ap (λ (o : Option (List ℕ)). unwrap_or o []) (slice_get-map (λ t. t.now) names n ∙ ap (option_map (λ t. t.now)) is)
-
--- By their numbers.
 
 -- the text of a word
 pub plain_text : (w : ℕ) → text_as Numbers w ≡ text_of w

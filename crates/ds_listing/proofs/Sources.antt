@@ -1,11 +1,11 @@
 -- The text of words assembles to their bytes.
-use Rattle.std.proofs.Common.{◌≡◌, ◌∙◌, ap, sym, refl, ℕ, ◌+◌, ◌*◌, ◌%◌, ◌≤◌, true, false, ◌&&◌, ◌==◌, nat_lt, List, [], ◌∷◌, ◌++◌, length, length-append, map, Option, Ok, arith, append-nil, append_assoc}
-use Rattle.std.proofs.lemmas.Bool.{and_from, le-ltb, ne_eqb}
+use Rattle.std.proofs.Common.{◌≡◌, ◌∙◌, ap, sym, refl, ℕ, ◌+◌, ◌*◌, ◌%◌, ◌≤◌, false, ◌==◌, nat_lt, List, [], ◌∷◌, ◌++◌, length, length-append, map, Option, Ok, arith, append-nil, append_assoc}
+use Rattle.std.proofs.lemmas.Bool.{le-ltb, ne_eqb}
 use Rattle.ds_word.specs.Bytes.{bytes_of_word}
 use Rattle.ds_word.specs.Inner.Bytes.{bytes_of_words}
 use Rattle.ds_word.specs.ResultBinding.{◌>>=◌}
 use Rattle.ds_asm.specs.Lines.{Line, line_of}
-use Rattle.ds_asm.specs.Assembly.{Layout, empty_layout, most_bytes, is_in_range, is_word_aligned, laid_line, laid_lines, line_bytes, bytes_from, lines_of, label_address, assembled}
+use Rattle.ds_asm.specs.Assembly.{at_line, Layout, empty_layout, most_bytes, statement_size, sized_by, laid_line, laid_lines, line_bytes, bytes_from, lines_of, label_address, assembled}
 use Rattle.ds_asm.proofs.SourceLines.{lines_of-first}
 use Rattle.ds_listing.specs.Inner.Laws.{Says, IsLineOf, EachIsRead}
 use Rattle.ds_listing.specs.Texts.{text_of}
@@ -29,26 +29,27 @@ abbrev pub plain_layout : ℕ → Layout
 plain_layout at = record { labels = []; size = at }
 
 -- the first pass over a line that says a word
-pub word_laid : (n at w : ℕ) (line : Option Line) → Says line w → at % 4 ≡ 0 → at + 4 ≤ 65536 → laid_line n line (plain_layout at) ≡ Ok (plain_layout (at + 4))
-word_laid n at w line s even room =
+pub word_laid : (at w : ℕ) (line : Option Line) → Says line w → at % 4 ≡ 0 → at + 4 ≤ 65536 → laid_line line (plain_layout at) ≡ Ok (plain_layout (at + 4))
+word_laid at w line s even room =
     let fits : nat_lt most_bytes (at + 4) ≡ false = le-ltb _ _ (omega arith) in
-    let good : is_in_range s.statement && is_word_aligned at s.statement ≡ true = and_from _ _ s.word.in_range (s.word.aligned at even) in
-    ap (λ x. laid_line n x (plain_layout at)) s.is ∙ (rw (good, s.word.size, fits) refl)
+    ap (λ x. laid_line x (plain_layout at)) s.is
+    ∙ (ap (λ c. sized_by (at + statement_size s.statement) c >>= (λ size. Ok (plain_layout size))) (s.word.stands at even)
+    ∙ (rw (s.word.size, fits) refl))
 
 -- and the second
-pub word_added : (n w at : ℕ) (find : List ℕ → Option ℕ) (line : Option Line) → Says line w → line_bytes n find at line ≡ Ok (bytes_of_word w)
-word_added n w at find line s = ap (line_bytes n find at) s.is ∙ s.word.bytes n find at
+pub word_added : (w at : ℕ) (find : List ℕ → Option ℕ) (line : Option Line) → Says line w → line_bytes find at line ≡ Ok (bytes_of_word w)
+word_added w at find line s = ap (line_bytes find at) s.is ∙ s.word.bytes find at
 
 source_laid : (n at : ℕ) (ws : List ℕ) → EachIsRead ws → at % 4 ≡ 0 → at + 4 * length ws ≤ 65536 → laid_lines n (plain_layout at) (map text_of ws) ≡ Ok (plain_layout (at + 4 * length ws))
 source_laid n at [] read even room = ap (λ (k : ℕ). Ok (plain_layout k)) (omega arith)
 source_laid n at (w ∷ ws) read even room =
-    ap (λ r. r >>= (λ more. laid_lines (n + 1) more (map text_of ws))) (word_laid n at w (line_of (text_of w)) read.0.says even (omega arith))
+    ap (λ r. at_line n r >>= (λ more. laid_lines (n + 1) more (map text_of ws))) (word_laid at w (line_of (text_of w)) read.0.says even (omega arith))
     ∙ (source_laid (n + 1) (at + 4) ws read.1 (omega arith) (omega arith) ∙ ap (λ (k : ℕ). Ok (plain_layout k)) (omega arith))
 
 source_added : (n : ℕ) (find : List ℕ → Option ℕ) (bytes : List ℕ) (ws : List ℕ) → EachIsRead ws → bytes_from n find bytes (map text_of ws) ≡ Ok (bytes ++ bytes_of_words ws)
 source_added n find bytes [] read = ap (λ bs. Ok bs) (sym (append-nil bytes))
 source_added n find bytes (w ∷ ws) read =
-    ap (λ r. r >>= (λ more. bytes_from (n + 1) find (bytes ++ more) (map text_of ws))) (word_added n w (length bytes) find (line_of (text_of w)) read.0.says)
+    ap (λ r. at_line n r >>= (λ more. bytes_from (n + 1) find (bytes ++ more) (map text_of ws))) (word_added w (length bytes) find (line_of (text_of w)) read.0.says)
     ∙ (source_added (n + 1) find (bytes ++ bytes_of_word w) ws read.1 ∙ ap (λ bs. Ok bs) (append_assoc bytes (bytes_of_word w) (bytes_of_words ws)))
 
 -- the text of words, as many as an image holds, says their bytes

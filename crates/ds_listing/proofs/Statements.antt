@@ -7,7 +7,7 @@ use Rattle.std.proofs.Math.Seq.{take-append_seam, drop-append_seam, take-length,
 use Rattle.ds_word.specs.Bytes.{bytes_of_word}
 use Rattle.ds_asm.specs.Characters.{is_blank, without_front_blanks}
 use Rattle.ds_asm.specs.Operands.{without_operands}
-use Rattle.ds_asm.specs.Lines.{Encoded, WordNumber, unless_empty, number_word, instruction_named, statement_named, statement_of, line_of}
+use Rattle.ds_asm.specs.Lines.{Encoded, WordNumber, unless_empty, number_word, instruction_named, statement_by, statement_named, statement_of, line_of}
 use Rattle.ds_asm.specs.Assembly.{is_reserved_word}
 use Rattle.ds_listing.specs.Texts.{word_text}
 use Rattle.ds_text.specs.Digits.{hex8}
@@ -103,23 +103,21 @@ named_statement c cs left h =
     let (a, b) = and_parts (list_all is_clear (c ∷ cs)) _ h in
     let (w, b2) = and_parts (not (bytes_eq (c ∷ cs) (codes ".word"))) _ b in
     let (y, s) = and_parts (not (bytes_eq (c ∷ cs) (codes ".byte"))) _ b2 in
-    cond-false _ _ _ (not-true _ w) ∙ (cond-false _ _ _ (not-true _ y) ∙ cond-false _ _ _ (not-true _ s))
+    ap (λ d. statement_by d (c ∷ cs) left) (cond-false _ _ _ (not-true _ w) ∙ (cond-false _ _ _ (not-true _ y) ∙ cond-false _ _ _ (not-true _ s)))
 
 -- a word in a field of its own
 pub encoded_word : (w : ℕ) → is_reserved_word w ≡ false → IsWord (Encoded (without_operands w)) w
 encoded_word w h = record {
   size = refl;
-  in_range = ap not h;
-  aligned = λ at e. eq-eqb (at % 4) 0 e;
-  bytes = λ n find at. refl;
+  stands = λ at e. rw (eq-eqb (at % 4) 0 e, h) refl;
+  bytes = λ find at. refl;
 }
 
 number_is_word : (w : ℕ) → w < 2 ^ 32 → IsWord (WordNumber (record { negative = false; magnitude = w })) w
 number_is_word w l = record {
   size = refl;
-  in_range = le-leb w 4294967295 (omega arith);
-  aligned = λ at e. eq-eqb (at % 4) 0 e;
-  bytes = λ n find at. ap (λ (v : ℕ). Ok (bytes_of_word v)) (omega arith);
+  stands = λ at e. rw (le-leb w 4294967295 (omega arith), eq-eqb (at % 4) 0 e) refl;
+  bytes = λ find at. ap (λ (v : ℕ). Ok (bytes_of_word v)) (omega arith);
 }
 
 -- a word by its number

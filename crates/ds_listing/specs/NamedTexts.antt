@@ -1,19 +1,15 @@
 -- The text of a word, with registers called by their numbers or by their common names.
-use Rattle.std.specs.Prelude.{codes, ℕ, ◌==◌, if◌then◌else◌, List, [], ◌∷◌, ◌++◌, slice_get, unwrap_or}
-use Rattle.ds_asm.specs.RegisterNames.{register_names}
+use Rattle.std.specs.Prelude.{codes, ℕ, ◌==◌, if◌then◌else◌, List, ◌∷◌, ◌++◌}
+use Rattle.ds_asm.specs.RegisterNames.{register_name}
 use Rattle.ds_listing.specs.declared.names.RegisterNames.{RegisterNames}
 use Rattle.ds_listing.specs.declared.names.RegisterNames.TheVariants.{Numbers, Common}
 use Rattle.ds_listing.specs.Sources.{elf_comment, lines_by}
 use Rattle.ds_listing.specs.Texts.{form_of, register_read_text, word_by}
 
--- the common name of a register, which is one of those that the assembler reads
-abbrev pub common_name : ℕ → List ℕ
-common_name n = unwrap_or (slice_get register_names n) []
-
--- a register, by its number or its common name
+-- a register, by its number or by its common name, which the assembler reads
 abbrev pub register_as : RegisterNames → ℕ → List ℕ
 register_as Numbers n = register_read_text n
-register_as Common n = 36 ∷ common_name n
+register_as Common n = 36 ∷ register_name n
 
 -- the text of a word
 unfoldable pub text_as : RegisterNames → ℕ → List ℕ

@@ -5,7 +5,7 @@ ghost use Rattle.ds_listing.specs.Inner.Plain.{plain_form};
 ghost use Rattle.ds_listing.specs.Texts.{form_of};
 ghost use Rattle.ds_listing.specs.Inner.Texts.{form_in};
 
-use crate::operand::Operand;
+use ds_asm::{Operand, Place, operand};
 use ds_isa::{Instr, decode, instruction_table};
 
 /// How an instruction is written.
@@ -13,22 +13,6 @@ use ds_isa::{Instr, decode, instruction_table};
 pub(crate) struct Form {
     pub(crate) name: &'static str,
     pub(crate) operands: &'static [Operand],
-}
-
-/// An operand, by the word for it in the table of instructions.
-macro_rules! operand {
-    (rs) => { Operand::Rs };
-    (rt) => { Operand::Rt };
-    (rd) => { Operand::Rd };
-    (link) => { Operand::Link };
-    (system) => { Operand::System };
-    (shamt) => { Operand::Shamt };
-    (unsigned) => { Operand::Unsigned };
-    (code) => { Operand::Code };
-    (signed) => { Operand::Signed };
-    (label) => { Operand::Branch };
-    (jump) => { Operand::Jump };
-    (indexed) => { Operand::Indexed };
 }
 
 macro_rules! form {

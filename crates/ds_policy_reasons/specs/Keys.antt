@@ -1,10 +1,10 @@
 -- A key that no policy has, and the one that is meant by it.
 use Rattle.std.specs.Prelude.{codes, decimal, ℕ, ◌+◌, ◌-◌, Bool, false, ◌&&◌, ◌||◌, ◌==◌, nat_le, bytes_eq, if◌then◌else◌, List, [], ◌∷◌, ◌++◌, length, take, drop, Option, None, Some, option_map}
 use Rattle.std.specs.List.{ends_with, find, list_any, prefix_len}
+use Rattle.std.specs.Option.{option_or}
 use Rattle.ds_asm.specs.Assembly.{lines_of}
 use Rattle.ds_asm.specs.Characters.{is_digit, is_letter, without_front_blanks}
 use Rattle.ds_source_reasons.specs.Likeness.{is_like}
-use Rattle.ds_source_reasons.specs.Reasons.{or_next}
 use Rattle.ds_policy_reasons.specs.declared.keys.TheConstants as constants
 
 -- whether a key may hold a byte
@@ -44,7 +44,7 @@ odd_one n line (Some name) = if is_key name then None else Some (record { name =
 -- the first key that no policy has, in lines of which the first is line n
 abbrev pub first_odd : ℕ → List (List ℕ) → Option OddKey
 first_odd n [] = None
-first_odd n (line ∷ lines) = or_next (odd_one n line (key_in (key_text line))) (first_odd (n + 1) lines)
+first_odd n (line ∷ lines) = option_or (odd_one n line (key_in (key_text line))) (first_odd (n + 1) lines)
 
 -- the first key of a text that no policy has
 unfoldable pub odd_key : List ℕ → Option OddKey

@@ -1,11 +1,11 @@
 //! A key that no policy has, and the one that is meant by it.
-ghost use Rattle.std.specs.Prelude.{◌≡◌, ◌≤◌, ◌==◌, ◌++◌, OnOk, bytes_eq, length, option_map, take};
+ghost use Rattle.std.specs.Prelude.{◌≡◌, ◌≤◌, ◌==◌, ◌++◌, OnOk, bytes_eq, length, option_map};
 ghost use Rattle.std.specs.List.{find, list_any, prefix_len};
 ghost use Rattle.ds_asm.specs.Assembly.{lines_of};
 ghost use Rattle.ds_policy_reasons.specs.Keys.{ends_key, first_odd, is_key, is_meant, is_of_key, is_plural, key_in, key_text, meant_key, meant_text, odd_key, odd_key_text, odd_one};
 ghost use Rattle.ds_policy_reasons.specs.Inner.Keys.{plain_odd};
 
-use ds_asm::{first_line, is_digit, is_letter, without_front_blanks};
+use ds_asm::{first_line, front_of, is_digit, is_letter, without_front_blanks};
 use ds_source_reasons::is_like;
 use ds_text::sheet::push_decimal;
 use std::alloc::AllocError;
@@ -198,16 +198,5 @@ fn push_meant(sheet: &mut Vec<u8>, key: Option<&str>) -> Result<(), AllocError>
             sheet.extend_from_slice(key.as_bytes())?;
             sheet.extend_from_slice(AFTER_MEANT_KEY.as_bytes())
         }
-    }
-}
-
-/// So many characters of a text, or all where they are fewer.
-fn front_of(most: usize, text: &[u8]) -> &[u8]
-    ensures { result.now ≡ take most text.now }
-{
-    if most < text.len() {
-        &text[..most]
-    } else {
-        text
     }
 }

@@ -1,13 +1,13 @@
 -- A label that a statement names and no line has, and one that is like it.
 use Rattle.std.specs.Prelude.{ℕ, ◌+◌, ◌-◌, Bool, ◌||◌, if◌then◌else◌, List, [], ◌∷◌, ◌++◌, length, drop, take, decimal, Option, None, Some}
 use Rattle.std.specs.List.{suffix_len}
+use Rattle.std.specs.Option.{option_or}
 use Rattle.ds_asm.specs.Assembly.{lines_of}
 use Rattle.ds_asm.specs.Characters.{is_digit, is_letter, until, without_back_blanks}
 use Rattle.ds_asm.specs.Faults.{label_in}
 use Rattle.ds_asm.specs.Lines.{line_of}
 use Rattle.ds_source_reasons.specs.declared.texts.TheConstants as texts
 use Rattle.ds_source_reasons.specs.Likeness.{is_like}
-use Rattle.ds_source_reasons.specs.Reasons.{or_next}
 use Rattle.ds_source_reasons.specs.Texts.{quoted}
 
 -- whether a label may hold a byte
@@ -39,7 +39,7 @@ like_in name n (Some label) = if is_like name label then Some (record { name = l
 -- the first label that is like a name, in lines of which the first is line n
 abbrev pub first_like : List ℕ → ℕ → List (List ℕ) → Option Labelled
 first_like name n [] = None
-first_like name n (line ∷ lines) = or_next (like_in name n (label_in (line_of line))) (first_like name (n + 1) lines)
+first_like name n (line ∷ lines) = option_or (like_in name n (label_in (line_of line))) (first_like name (n + 1) lines)
 
 -- the first label of a source's first 65,536 bytes that is like a name
 unfoldable pub like_label : List ℕ → List ℕ → Option Labelled

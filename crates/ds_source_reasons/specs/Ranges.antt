@@ -1,5 +1,5 @@
 -- Why a statement that can be read may not stand where it stands.
-use Rattle.std.specs.Prelude.{ℕ, ◌-◌, not, ◌==◌, List, length, drop, Option, Some, None, option_map}
+use Rattle.std.specs.Prelude.{ℕ, ◌-◌, not, ◌==◌, List, length, drop, Option, Some, None, option_map, unwrap_or}
 use Rattle.std.specs.List.{suffix_len}
 use Rattle.ds_asm.specs.Characters.{trimmed, until}
 use Rattle.ds_asm.specs.declared.cause.Cause.{Cause}
@@ -24,33 +24,6 @@ last_operand text = drop (length text - suffix_len (λ c. not (c == 44)) text) t
 abbrev pub number_text : List ℕ → List ℕ
 number_text text = trimmed (until 40 (last_operand text))
 
--- the reason of a statement of this text, by the cause for which it may not stand at a place of the image
-abbrev pub reason_by : ℕ → List ℕ → Cause → RangeReason
-reason_by at text (cause.OutOfRange b) = OutOfRange (number_text (after_word text)) b.least b.most
-reason_by at text cause.NotAligned = NotAligned at
-reason_by at text cause.Reserved = Reserved (mnemonic_of text)
-
--- the same, where there is a cause
-abbrev pub reason_with : ℕ → List ℕ → Option Cause → Option RangeReason
-reason_with at text None = None
-reason_with at text (Some c) = Some (reason_by at text c)
-
--- the cause for which the assembler refuses a line's statement at a place of the image
-abbrev pub statement_cause : ℕ → Option Statement → Option Cause
-statement_cause at None = None
-statement_cause at (Some s) = cause_at at s
-
--- the same of a line, where it can be read
-abbrev pub cause_in : ℕ → Option Line → Option Cause
-cause_in at None = None
-cause_in at (Some line) = statement_cause at line.statement
-
--- why the statement of a line may not stand at a place of the image
-unfoldable pub range_reason_of : ℕ → List ℕ → Option RangeReason
-range_reason_of at line = reason_with at (statement_text (trimmed (until 35 line))) (cause_in at (line_of line))
-
--- Targets.
-
 -- the label of a target
 abbrev pub label_of : operands.TargetLabel → Option (List ℕ)
 label_of operands.Nowhere = None
@@ -74,3 +47,31 @@ target_in (Some line) = label_gone_to line.statement
 -- the reason of a line whose target can't be reached
 abbrev pub target_reason_of : List ℕ → Option RangeReason
 target_reason_of line = option_map (λ label. Target label) (target_in (line_of line))
+
+-- Causes.
+
+-- the text of a line's statement
+abbrev pub said_statement : List ℕ → List ℕ
+said_statement line = statement_text (trimmed (until 35 line))
+
+-- the reason of a line at a place of the image, by the cause for which its statement is refused
+abbrev pub range_by : ℕ → List ℕ → Cause → Option RangeReason
+range_by at line (cause.OutOfRange b) = Some (OutOfRange (number_text (after_word (said_statement line))) b.least b.most)
+range_by at line cause.NotAligned = Some (NotAligned at)
+range_by at line cause.Reserved = Some (Reserved (mnemonic_of (said_statement line)))
+range_by at line cause.OutOfReach = target_reason_of line
+range_by at line _ = None
+
+-- the cause for which the assembler refuses a line's statement at a place of the image
+abbrev pub statement_cause : ℕ → Option Statement → Option Cause
+statement_cause at None = None
+statement_cause at (Some s) = cause_at at s
+
+-- the same of a line, where it can be read
+abbrev pub cause_in : ℕ → Option Line → Option Cause
+cause_in at None = None
+cause_in at (Some line) = statement_cause at line.statement
+
+-- the cause of a line that is refused as out of range at a place: that against its statement, or else against its target
+abbrev pub range_cause : ℕ → List ℕ → Cause
+range_cause at line = unwrap_or (cause_in at (line_of line)) cause.OutOfReach

@@ -1,11 +1,13 @@
 -- Why a line of a source can't be read.
-use Rattle.std.specs.Prelude.{codes, ℕ, ◌+◌, Bool, not, ◌&&◌, ◌||◌, ◌==◌, nat_le, bytes_eq, if◌then◌else◌, List, [], ◌∷◌, length, take, count_by, Option, Some, None, option_map, is_none, is_some, unwrap_or}
+use Rattle.std.specs.Prelude.{ℕ, ◌+◌, Bool, not, ◌&&◌, ◌||◌, ◌==◌, nat_le, bytes_eq, if◌then◌else◌, List, [], ◌∷◌, length, take, count_by, Option, Some, None, option_map, is_none, is_some, unwrap_or}
 use Rattle.std.specs.List.{find, list_any}
 use Rattle.ds_asm.specs.Characters.{is_blank, is_letter, is_digit, is_name, without_back_blanks, trimmed, until, text_after}
 use Rattle.ds_isa.specs.Fields.{Operand}
 use Rattle.ds_asm.specs.Forms.{Written, form_named, begins_with}
 use Rattle.ds_asm.specs.Operands.{has_comma, is_code, is_link}
-use Rattle.ds_asm.specs.Lines.{mnemonic_of, after_word, after_mnemonic, statement_named}
+use Rattle.ds_asm.specs.Lines.{mnemonic_of, after_word, after_mnemonic, directive_named, statement_named}
+use Rattle.ds_asm.specs.declared.line.Directive.{Directive}
+use Rattle.ds_asm.specs.declared.line.Directive.TheVariants as directive
 use Rattle.ds_asm.specs.RegisterNames.{register_of}
 use Rattle.ds_source_reasons.specs.declared.reason.Wanted.{Wanted}
 use Rattle.ds_source_reasons.specs.declared.reason.Wanted.TheVariants as wanted
@@ -29,16 +31,6 @@ pub data Reason : Type 0 where
   TextAfter : (text : List ℕ) → Reason
   NoSuchRegister : (name : List ℕ) → Reason
   WrongOperand : (number : ℕ) (wanted : Wanted) (found : List ℕ) → Reason
-
--- the first reason, or else the other
-abbrev pub or_reason : Option Reason → Reason → Reason
-or_reason (Some why) other = why
-or_reason None other = other
-
--- the first reason if there is one, or else the other
-abbrev pub or_next : {A : Type 0} → Option A → Option A → Option A
-or_next (Some why) other = Some why
-or_next None other = other
 
 -- Operands.
 
@@ -108,16 +100,15 @@ abbrev pub directive_reason : List ℕ → Wanted → Option (List ℕ) → Reas
 directive_reason name w None = OneNumber 0
 directive_reason name w (Some text) = one_number (operand_count (Some text)) (misfit 1 w (is_some (statement_named name (Some (mnemonic_of text)))) text)
 
--- whether a word is a directive
-abbrev pub is_directive : List ℕ → Bool
-is_directive name = bytes_eq name (codes ".word") || bytes_eq name (codes ".byte") || bytes_eq name (codes ".space")
+-- why a statement of a directive, or else of an instruction of this name, can't be read
+abbrev pub named_reason : Option Directive → List ℕ → Option (List ℕ) → Reason
+named_reason (Some directive.Word) name left = directive_reason name wanted.NumberOrLabel left
+named_reason (Some d) name left = directive_reason name wanted.Number left
+named_reason None name left = instruction_reason name left (form_named name)
 
 -- why a statement can't be read, by its first word and what stands after it
 unfoldable pub statement_reason : List ℕ → Option (List ℕ) → Reason
-statement_reason name left =
-    if bytes_eq name (codes ".word") then directive_reason name wanted.NumberOrLabel left
-    else if is_directive name then directive_reason name wanted.Number left
-    else instruction_reason name left (form_named name)
+statement_reason name left = named_reason (directive_named name) name left
 
 -- Lines.
 
@@ -154,9 +145,9 @@ byte_reason text = option_map (λ c. NoSuchByte c) (find (λ c. not (is_written 
 abbrev pub first_reason : List ℕ → List ℕ → Reason
 first_reason text s =
     if bytes_eq (take 3 text) (0xEF ∷ 0xBB ∷ 0xBF ∷ []) then ByteOrderMark
-    else if begins_with 46 (mnemonic_of s) && not (is_directive (mnemonic_of s)) then NoSuchDirective (mnemonic_of s)
+    else if begins_with 46 (mnemonic_of s) && is_none (directive_named (mnemonic_of s)) then NoSuchDirective (mnemonic_of s)
     else if is_macro (mnemonic_of s) then Macro (mnemonic_of s)
-    else or_reason (byte_reason text) (
+    else unwrap_or (byte_reason text) (
     if has_byte 13 text then CarriageReturn
     else if has_byte 58 text && not (is_name (until 58 text)) then no_label (until 58 text)
     else if has_byte 58 s then SecondColon

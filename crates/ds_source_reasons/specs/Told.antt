@@ -5,8 +5,8 @@ use Rattle.ds_asm.specs.declared.fault.SourceFault.{SourceFault}
 use Rattle.ds_asm.specs.declared.fault.SourceFault.TheVariants as fault
 use Rattle.ds_asm.specs.Faults.{size_in}
 use Rattle.ds_asm.specs.Lines.{line_of}
-use Rattle.ds_source_reasons.specs.Reasons.{Reason, or_next, unread_reason}
-use Rattle.ds_source_reasons.specs.Ranges.{RangeReason, range_reason_of, target_reason_of}
+use Rattle.ds_source_reasons.specs.Reasons.{Reason, unread_reason}
+use Rattle.ds_source_reasons.specs.Ranges.{RangeReason, range_by, range_cause}
 use Rattle.ds_source_reasons.specs.Texts.{reason_text, range_text}
 
 -- why a line can't be read, or why its statement is out of range
@@ -17,7 +17,7 @@ pub data FaultReason : Type 0 where
 -- the reason of a fault of a line that begins at a place of the image
 abbrev pub told_reason : SourceFault → ℕ → List ℕ → Option FaultReason
 told_reason (fault.Syntax n) place line = Some (Unread (unread_reason line))
-told_reason (fault.Range n) place line = option_map (λ why. OutOf why) (or_next (range_reason_of place line) (target_reason_of line))
+told_reason (fault.Range n) place line = option_map (λ why. OutOf why) (range_by place line (range_cause place line))
 told_reason (fault.UnknownLabel n) place line = None
 told_reason (fault.DoubleLabel n) place line = None
 told_reason (fault.TooLong n) place line = None

@@ -1,5 +1,5 @@
 //! Characters of a text.
-ghost use Rattle.std.specs.Prelude.{◌≡◌, ◌≤◌, ◌==◌, length, count_by, take};
+ghost use Rattle.std.specs.Prelude.{◌≡◌, ◌≤◌, ◌==◌, length, count_by};
 ghost use Rattle.ds_asm.specs.Forms.{begins_with};
 ghost use Rattle.ds_source_reasons.specs.Reasons.{has_byte};
 
@@ -26,15 +26,4 @@ pub(crate) fn count_commas(text: &[u8]) -> usize
     ensures within { result ≤ length text.now }
 {
     text.iter().filter(|b| **b == b',').count()
-}
-
-/// So many characters of a text, or all where they are fewer.
-pub(crate) fn front_of(most: usize, text: &[u8]) -> &[u8]
-    ensures { result.now ≡ take most text.now }
-{
-    if most < text.len() {
-        &text[..most]
-    } else {
-        text
-    }
 }

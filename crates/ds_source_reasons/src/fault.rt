@@ -1,14 +1,11 @@
 //! The reasons of the faults of a source.
 ghost use Rattle.std.specs.Prelude.{◌≡◌, ◌++◌, ◌-◌, OnOk, option_map};
 ghost use Rattle.ds_asm.specs.Assembling.{source_fault_line};
-ghost use Rattle.ds_source_reasons.specs.Inner.Plain.{plain_range};
-ghost use Rattle.ds_source_reasons.specs.Ranges.{range_reason_of, target_reason_of};
-ghost use Rattle.ds_source_reasons.specs.Reasons.{or_next};
 ghost use Rattle.ds_source_reasons.specs.Told.{after_line, after_lines, fault_text, line_after, offset_after, fault_reason_at, told_reason};
 ghost use Rattle.ds_source_reasons.specs.Inner.Told.{plain_fault};
 
 use crate::line::unread_reason;
-use crate::range::{range_reason, target_reason};
+use crate::range::{range_by, range_cause};
 use crate::reason::{RangeReason, SyntaxReason};
 use crate::told::{push_range_reason, push_syntax_reason};
 use ds_asm::{SourceFault, first_line, source_line};
@@ -90,20 +87,13 @@ pub fn fault_reason(fault: SourceFault, place: u64, line: &[u8]) -> Option<Fault
 {
     match fault {
         SourceFault::Syntax(_) => Some(FaultReason::Syntax(unread_reason(line))),
-        SourceFault::Range(_) => Some(FaultReason::Range(range_or_target(place, line)?)),
+        SourceFault::Range(_) => {
+            let cause = range_cause(place, line);
+            Some(FaultReason::Range(range_by(place, line, cause)?))
+        }
         SourceFault::UnknownLabel(_) | SourceFault::DoubleLabel(_) | SourceFault::TooLong(_) => {
             None
         }
-    }
-}
-
-fn range_or_target(place: u64, line: &[u8]) -> Option<RangeReason<'_>>
-    ensures { option_map plain_range result
-        ≡ or_next (range_reason_of place line.now) (target_reason_of line.now) }
-{
-    match range_reason(place, line) {
-        Some(reason) => Some(reason),
-        None => target_reason(line),
     }
 }
 

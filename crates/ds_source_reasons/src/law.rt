@@ -2,8 +2,8 @@
 ghost use Rattle.std.specs.Prelude.{◌≡◌, ◌≤◌, ◌==◌, ◌+◌, ◌%◌, ℕ, not, is_some};
 ghost use Rattle.ds_asm.specs.Assembly.{branch_field, jump_field, origin};
 ghost use Rattle.ds_asm.specs.Lines.{line_of};
-ghost use Rattle.ds_source_reasons.specs.Ranges.{cause_in, range_reason_of};
-ghost use Rattle.ds_source_reasons.specs.Inner.Reasons.{reason_of};
+ghost use Rattle.ds_source_reasons.specs.Ranges.{cause_in};
+ghost use Rattle.ds_source_reasons.specs.Inner.Reasons.{range_reason_of, reason_of};
 
 /// The law that a line has a reason exactly where the assembler reads nothing from it.
 pub fn a_reason_is_a_syntax_fault(line: &[u8])

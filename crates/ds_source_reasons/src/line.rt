@@ -2,7 +2,7 @@
 ghost use Rattle.std.specs.Prelude.{◌≡◌, ◌==◌, ◌∷◌, [], not, bytes_eq, take, option_map};
 ghost use Rattle.std.specs.List.{find};
 ghost use Rattle.ds_source_reasons.specs.Inner.Plain.{plain_reason};
-ghost use Rattle.ds_source_reasons.specs.Reasons.{is_directive, is_written, no_label, said_reason, statement_text, unread_reason};
+ghost use Rattle.ds_source_reasons.specs.Reasons.{is_written, no_label, said_reason, statement_text, unread_reason};
 ghost use Rattle.ds_source_reasons.specs.Inner.Reasons.{reason_of};
 
 use crate::characters::{begins_with, has_byte};
@@ -10,8 +10,8 @@ use crate::macros::is_macro;
 use crate::reason::SyntaxReason;
 use crate::statement::text_reason;
 use ds_asm::{
-    is_blank, is_digit, is_letter, is_name, line_of, split_at_first, split_word, trimmed, until,
-    without_back_blanks,
+    directive_named, is_blank, is_digit, is_letter, is_name, line_of, split_at_first, split_word,
+    trimmed, until, without_back_blanks,
 };
 
 /// Why a line of a source, without its line feed, can't be read. There is none where it can.
@@ -41,7 +41,7 @@ fn said_reason(text: &[u8]) -> SyntaxReason<'_>
     let (name, _) = split_word(statement);
     if has_mark(text) {
         SyntaxReason::ByteOrderMark
-    } else if begins_with(b'.', name) && !is_directive(name) {
+    } else if begins_with(b'.', name) && directive_named(name).is_none() {
         SyntaxReason::NoSuchDirective(name)
     } else if is_macro(name) {
         SyntaxReason::Macro(name)
@@ -84,13 +84,6 @@ fn has_mark(text: &[u8]) -> bool
     ensures { result ≡ bytes_eq (take 3 text.now) (0xEF ∷ 0xBB ∷ 0xBF ∷ []) }
 {
     text.starts_with(&[0xEF, 0xBB, 0xBF])
-}
-
-/// Whether a word is a directive.
-pub(crate) fn is_directive(name: &[u8]) -> bool
-    ensures { result ≡ is_directive name.now }
-{
-    name == b".word".as_slice() || name == b".byte".as_slice() || name == b".space".as_slice()
 }
 
 /// The first byte that no label and no statement may hold.

@@ -7,11 +7,10 @@ ghost use Rattle.ds_asm.specs.Lines.{line_of};
 ghost use Rattle.ds_source_reasons.specs.Missing.{first_like, is_of_word, labelled_text, last_word, last_word_place, like_in, like_label, like_text, missing_text};
 ghost use Rattle.ds_source_reasons.specs.Inner.Missing.{plain_labelled};
 
-use crate::characters::front_of;
 use crate::likeness::is_like;
 use crate::texts::{AFTER_NO_LABEL, IN_LINE, LIKE_LABEL, NO_LABEL, STOP};
 use crate::told::{push_quoted, push_text};
-use ds_asm::{first_line, is_digit, is_letter, source_line, until, without_back_blanks};
+use ds_asm::{first_line, front_of, is_digit, is_letter, source_line, until, without_back_blanks};
 use ds_text::sheet::push_decimal;
 use std::alloc::AllocError;
 

@@ -3,7 +3,8 @@ ghost use Rattle.std.specs.Prelude.{◌≡◌, ◌≤◌, ◌==◌, not, length,
 ghost use Rattle.std.specs.List.{suffix_len};
 ghost use Rattle.ds_asm.specs.Inner.Plain.{plain_line};
 ghost use Rattle.ds_source_reasons.specs.Inner.Plain.{plain_range};
-ghost use Rattle.ds_source_reasons.specs.Ranges.{cause_in, number_text, range_reason_of, reason_by, reason_with, target_reason_of};
+ghost use Rattle.ds_source_reasons.specs.Inner.Reasons.{range_reason_of};
+ghost use Rattle.ds_source_reasons.specs.Ranges.{cause_in, number_text, range_by, range_cause, target_reason_of};
 
 use crate::line::statement_text;
 use crate::reason::RangeReason;
@@ -11,12 +12,11 @@ use ds_asm::{Cause, Line, Statement, Target, line_of, split_word, trimmed, until
 
 /// Why the statement of a line, without its line feed, may not stand at a place of the image, in
 /// bytes from its beginning. There is none where it may, and where the line can't be read.
-#[tactic(auto, unfolding(crate::specs::Ranges::range_reason_of))]
+#[tactic(auto, unfolding(crate::specs::Inner::Reasons::range_reason_of))]
 pub fn range_reason(place: u64, line: &[u8]) -> Option<RangeReason<'_>>
     ensures { option_map plain_range result ≡ range_reason_of place line.now }
 {
-    let text = statement_text(trimmed(until(b'#', line)));
-    reason_with(place, text, cause_in(place, line_of(line)))
+    range_by(place, line, cause_in(place, line_of(line))?)
 }
 
 /// The cause for which the assembler refuses the statement of a line at a place.
@@ -26,26 +26,33 @@ fn cause_in(place: u64, line: Option<Line<'_>>) -> Option<Cause>
     line?.statement?.cause_at(place)
 }
 
-/// The reason of a statement of this text, where there is a cause for which it may not stand at a
-/// place.
-fn reason_with(place: u64, text: &[u8], cause: Option<Cause>) -> Option<RangeReason<'_>>
-    ensures { option_map plain_range result ≡ reason_with place text.now cause }
+/// The cause of a line that is refused as out of range: that against its statement, or else against
+/// its target.
+pub(crate) fn range_cause(place: u64, line: &[u8]) -> Cause
+    ensures { result ≡ range_cause place line.now }
 {
-    Some(reason_by(place, text, cause?))
+    match cause_in(place, line_of(line)) {
+        Some(cause) => cause,
+        None => Cause::OutOfReach,
+    }
 }
 
-fn reason_by(place: u64, text: &[u8], cause: Cause) -> RangeReason<'_>
-    ensures { plain_range result ≡ reason_by place text.now cause }
+/// The reason of a line by the cause for which its statement is refused at a place.
+pub(crate) fn range_by(place: u64, line: &[u8], cause: Cause) -> Option<RangeReason<'_>>
+    ensures { option_map plain_range result ≡ range_by place line.now cause }
 {
+    let text = statement_text(trimmed(until(b'#', line)));
     let (name, after) = split_word(text);
     match cause {
-        Cause::OutOfRange(bounds) => RangeReason::OutOfRange {
+        Cause::OutOfRange(bounds) => Some(RangeReason::OutOfRange {
             found: number_text(after),
             least: u64::from(bounds.least),
             most: u64::from(bounds.most),
-        },
-        Cause::NotAligned => RangeReason::NotAligned(place),
-        Cause::Reserved => RangeReason::Reserved(name),
+        }),
+        Cause::NotAligned => Some(RangeReason::NotAligned(place)),
+        Cause::Reserved => Some(RangeReason::Reserved(name)),
+        Cause::OutOfReach => target_reason(line),
+        Cause::Syntax | Cause::DoubleLabel | Cause::TooLong | Cause::UnknownLabel => None,
     }
 }
 

@@ -5,10 +5,9 @@ ghost use Rattle.ds_asm.specs.Lines.{after_mnemonic, mnemonic_of};
 ghost use Rattle.ds_source_reasons.specs.Inner.Plain.{plain_reason};
 ghost use Rattle.ds_source_reasons.specs.Reasons.{directive_reason, has_upper_case, instruction_reason, no_mnemonic, one_number, statement_reason};
 
-use crate::line::is_directive;
 use crate::operand::{counted_by, misfit, operand_count, operands_reason};
 use crate::reason::{SyntaxReason, Wanted};
-use ds_asm::{Form, form_named, split_word, statement_named};
+use ds_asm::{Directive, Form, directive_named, form_named, split_word, statement_named};
 
 /// Why the text of a statement can't be read.
 pub(crate) fn text_reason(text: &[u8]) -> SyntaxReason<'_>
@@ -25,12 +24,10 @@ fn statement_reason<'a>(name: &'a [u8], left: Option<&'a [u8]>) -> SyntaxReason<
     ensures { plain_reason result
         ≡ statement_reason name.now (option_map (λ t. t.now) left.entry) }
 {
-    if name == b".word".as_slice() {
-        directive_reason(name, Wanted::NumberOrLabel, left)
-    } else if is_directive(name) {
-        directive_reason(name, Wanted::Number, left)
-    } else {
-        instruction_reason(name, left, form_named(name))
+    match directive_named(name) {
+        Some(Directive::Word) => directive_reason(name, Wanted::NumberOrLabel, left),
+        Some(Directive::Byte | Directive::Space) => directive_reason(name, Wanted::Number, left),
+        None => instruction_reason(name, left, form_named(name)),
     }
 }
 

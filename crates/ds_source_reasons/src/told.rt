@@ -3,7 +3,6 @@ ghost use Rattle.std.specs.Prelude.{◌≡◌, ◌++◌, OnOk, decimal};
 ghost use Rattle.ds_source_reasons.specs.Inner.Plain.{plain_range, plain_reason};
 ghost use Rattle.ds_source_reasons.specs.Texts.{after_byte, after_wanted, bound_text, operand_counts_text, least_text, one_number_text, operand_text, operands_text, misplaced_text, is_half, quoted, range_text, reason_text, shown_front, visible};
 
-use crate::characters::front_of;
 use crate::elsewhere::mnemonic_instead;
 use crate::macros::{directive_instead, macro_instead};
 use crate::reason::{RangeReason, SyntaxReason, Wanted};
@@ -16,6 +15,7 @@ use crate::texts::{
     TARGET, TO, WANTED_ADDRESS, WANTED_LABEL, WANTED_NUMBER, WANTED_NUMBER_OR_LABEL,
     WANTED_REGISTER, WANTED_SYSTEM_REGISTER,
 };
+use ds_asm::front_of;
 use ds_text::sheet::push_decimal;
 use std::alloc::AllocError;
 

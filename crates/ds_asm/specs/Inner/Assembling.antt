@@ -5,10 +5,13 @@ use Rattle.std.specs.Cmp.Lexicographic.{slice_cmp}
 use Rattle.std.specs.BTreeMap.{get_by}
 use Rattle.ds_asm.specs.declared.fault.AsmFault.{AsmFault}
 use Rattle.ds_asm.specs.declared.fault.AsmFault.TheVariants as asm
+use Rattle.ds_asm.specs.declared.cause.Cause.{Cause}
+use Rattle.ds_asm.specs.declared.cause.Stop.{Stop}
+use Rattle.ds_asm.specs.declared.cause.Stop.TheVariants as stop
 use Rattle.ds_asm.specs.declared.fault.SourceFault.{SourceFault}
 use Rattle.ds_asm.specs.declared.labels.Labels as code
 use Rattle.ds_asm.specs.declared.layout.Layout as held
-use Rattle.ds_asm.specs.Assembly.{Labels, label_address, Layout}
+use Rattle.ds_asm.specs.Assembly.{fault_at, Labels, label_address, Layout}
 use Rattle.ds_asm.specs.Assembling.{source_fault_number}
 
 -- the text has this fault; want of memory says nothing of the text
@@ -25,6 +28,21 @@ Assembles seen (Err e) said = Fails e said
 abbrev pub Comes : {X A : Type 0} → (X → A → Type 0) → Result X AsmFault → Result A SourceFault → Type 0
 Comes {A = A} Is (Ok x) said = (a : A) × (said ≡ Ok a) × Is x a
 Comes Is (Err e) said = Fails e said
+
+-- the line has this cause; want of memory says nothing of the line
+abbrev pub Refuses : {A : Type 0} → Stop → Result A Cause → Type 0
+Refuses (stop.Refused cause) said = said ≡ Err cause
+Refuses stop.Memory said = Unit {0}
+
+-- as Comes, of what a line says
+abbrev pub Takes : {X A : Type 0} → (X → A → Type 0) → Result X Stop → Result A Cause → Type 0
+Takes {A = A} Is (Ok x) said = (a : A) × (said ≡ Ok a) × Is x a
+Takes Is (Err e) said = Refuses e said
+
+-- why line n stops a pass, as the refusal of the source
+abbrev pub stopped_at : ℕ → Stop → AsmFault
+stopped_at n (stop.Refused cause) = asm.Source (fault_at n cause)
+stopped_at n stop.Memory = asm.Memory
 
 -- the numbers of the refusals
 abbrev pub fault_number : AsmFault → ℕ

@@ -3,7 +3,7 @@ use Rattle.std.specs.Prelude.{◌≡◌, ℕ, ◌%◌, true, not, ◌==◌, ◌<
 use Rattle.std.specs.List.{All, list_all}
 use Rattle.ds_word.specs.Bytes.{bytes_of_word}
 use Rattle.ds_asm.specs.Lines.{Statement, Line, line_of}
-use Rattle.ds_asm.specs.Assembly.{statement_size, is_in_range, is_word_aligned, statement_bytes}
+use Rattle.ds_asm.specs.Assembly.{statement_size, cause_at, statement_bytes}
 use Rattle.ds_listing.specs.Sources.{word_of_bytes}
 use Rattle.ds_listing.specs.Texts.{text_of}
 
@@ -14,9 +14,8 @@ alone s = option_map (λ s. record { label = None; statement = s }) (option_map 
 -- a statement that has the bytes of a word wherever a word may stand, whatever the labels are
 pub record IsWord (s : Statement) (w : ℕ) : Type 0 where
   pub size : statement_size s ≡ 4
-  pub in_range : is_in_range s ≡ true
-  pub aligned : (at : ℕ) → at % 4 ≡ 0 → is_word_aligned at s ≡ true
-  pub bytes : (n : ℕ) (find : List ℕ → Option ℕ) (at : ℕ) → statement_bytes n find at s ≡ Ok (bytes_of_word w)
+  pub stands : (at : ℕ) → at % 4 ≡ 0 → cause_at at s ≡ None
+  pub bytes : (find : List ℕ → Option ℕ) (at : ℕ) → statement_bytes find at s ≡ Ok (bytes_of_word w)
 
 -- a line of such a statement, and of no label
 pub record Says (line : Option Line) (w : ℕ) : Type 0 where

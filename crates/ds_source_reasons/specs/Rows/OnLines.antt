@@ -2,8 +2,7 @@
 use Rattle.std.specs.Prelude.{⊤}
 use Rattle.ds_asm.specs.Inner.OnLiterals.{asm_on_literals}
 use Rattle.ds_source_reasons.specs.Reasons.{operands_reason, statement_reason, is_macro, unread_reason}
-use Rattle.ds_source_reasons.specs.Inner.Reasons.{reason_of}
-use Rattle.ds_source_reasons.specs.Ranges.{range_reason_of}
+use Rattle.ds_source_reasons.specs.Inner.Reasons.{range_reason_of, reason_of}
 
 -- the definitions that compute why a line can't be read, or why its statement is out of range
 unfoldable pub reasons_on_literals : ⊤

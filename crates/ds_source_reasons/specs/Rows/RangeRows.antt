@@ -1,7 +1,8 @@
 -- Worked statements, each at a place of the image, with the reason for which it may not stand there.
 use Rattle.std.specs.Prelude.{codes, refl, ◌≡◌, ℕ, List, [], ◌∷◌, map, Option, Some, None}
 use Rattle.ds_source_reasons.specs.Rows.OnLines.{reasons_on_literals}
-use Rattle.ds_source_reasons.specs.Ranges.{RangeReason, OutOfRange, NotAligned, Reserved, range_reason_of}
+use Rattle.ds_source_reasons.specs.Ranges.{RangeReason, OutOfRange, NotAligned, Reserved}
+use Rattle.ds_source_reasons.specs.Inner.Reasons.{range_reason_of}
 
 -- a place, a line, and the reason if it has one
 abbrev PlaceRow : Type 0

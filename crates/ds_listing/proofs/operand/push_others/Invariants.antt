@@ -1,7 +1,7 @@
 use Rattle.std.proofs.Common.{◌≡◌, ◌++◌, map, take}
 use Rattle.std.specs.String.{string_bytes}
 use Rattle.ds_isa.specs.Fields.{in_word}
-use Rattle.ds_listing.specs.Inner.Plain.{operand_of}
+use Rattle.ds_asm.specs.Inner.Forms.{operand_of}
 use Rattle.ds_listing.specs.NamedTexts.{register_as}
 use Rattle.ds_listing.specs.Texts.{others_by}
 use Rattle.ds_listing.proofs.operand.push_others.Given as goal

@@ -15,6 +15,6 @@ returns-clause-said c = λ labels h.
     let is_new : c.in_ok-is_new.is_new ≡ true = c.if-not-is_new.false in
     let new : is_some (label_address labels c.in-Some.name.now) ≡ false = ap is_some (sym (h c.in-Some.name.now)) ∙ not_false _ (sym is_new ∙ c.in_ok-is_new.ensures.new) in (
       (c.in-Some.name.now, origin + c.args.self.now.size) ∷ labels,
-      labelled_new c.args.number c.args.self.now.size (option_map (λ t. t.now) c.args.label) c.in-Some.name.now labels (ap (option_map (λ t. t.now)) c.in-Some.is) new,
+      labelled_new c.args.self.now.size (option_map (λ t. t.now) c.args.label) c.in-Some.name.now labels (ap (option_map (λ t. t.now)) c.in-Some.is) new,
       c.in_ok-is_new.ensures.added is_new labels h,
     )
