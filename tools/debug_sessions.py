@@ -4,7 +4,7 @@
 Each is held in lock step: a packet is sent once what was to be answered before has come. Then it is held anew, with all
 that is sent at once, and with a byte at a time. What comes has to be the same each time.
 
-A file NAME.session has a line of words, `$ debug POLICY INPUT N`, given in examples/, and lines in their order:
+A file NAME.session has a line of words, as `$ debug POLICY INPUT N`, given in examples/, and lines in their order:
 
     > TEXT    a packet of this text is sent
     < TEXT    a packet of this text has to come

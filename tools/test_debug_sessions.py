@@ -44,8 +44,8 @@ class Sessions(InARoom):
 
 class Gdb(unittest.TestCase):
     def test_its_examples_are_there(self):
-        for folder, policy, inputs, _, source, _, *_ in [*gdb_sessions.SESSIONS.values(), *gdb_sessions.RANDOM]:
-            for name in (policy, inputs, source):
+        for folder, asked, source, *_ in [*gdb_sessions.SESSIONS.values(), *gdb_sessions.RANDOM]:
+            for name in [source, *(it for it in asked.split() if "." in it)]:
                 self.assertTrue((gdb_sessions.TOP / folder / name).is_file(), name)
 
     def test_what_lacks_in_its_order(self):

@@ -10,7 +10,8 @@ from .words import Names
 
 PAGE = "docs/believe.md"
 KIT_FIELDS = {"now", "old", "new", "items", "top", "contents", "remaining"}  # of the kit's types
-RUN, TRACE, BARE, BARE_DEBUG, DRIVE = (f"crates/{it}.rt" for it in ("ds_station/src/files", "ds_trace/src/files", "ds_bare/src/run", "ds_bare_debug/src/debug", "ds_drive/src/program"))
+RUN, TRACE, BARE, BARE_DEBUG, DRIVE, DRIVE_BARE = (f"crates/{it}.rt" for it in (
+    "ds_station/src/files", "ds_trace/src/files", "ds_bare/src/run", "ds_bare_debug/src/debug", "ds_drive/src/program", "ds_drive/src/bare_debug"))
 
 
 class Asked(NamedTuple):
@@ -67,6 +68,9 @@ LISTS = [
            "`tools/reason_model.py`, what is told of a policy and an input that are refused",
            "`tools/refused_growths.py`, which refuses each growth of memory in turn",
            "the rows of `listing/`, `checking/`, `mistakes/` and `commands/`"]),
+    Asked(DRIVE_BARE, "drive_bare_debug", [],
+          "What the words of a session with a debugger over the bare machine ask for, and its statuses.",
+          ["the sessions over the bare machine in `tools/debug/`, worked out by hand"]),
 ]
 HEAD = """\
 # What has to be believed

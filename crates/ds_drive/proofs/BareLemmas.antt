@@ -1,10 +1,9 @@
 -- Why there is no run on the bare machine, and what it leaves.
-use Rattle.std.proofs.Common.{◌≡◌, inl, inr, ℕ, List, [], refl, sym, subst, Bor}
-use Rattle.std.specs.Prelude.{Option, Some, None, Ok, false}
+use Rattle.std.proofs.Common.{◌≡◌, ◌⊎◌, inl, inr, ℕ, List, [], refl, sym, subst, Bor}
+use Rattle.std.specs.Prelude.{Option, Some, None, false}
 use Rattle.std.specs.Io.KnownBytes.{Keeps}
 use Rattle.clap.specs.Words.{Text}
 use Rattle.ds_asm.specs.declared.fault.SourceFault.{SourceFault}
-use Rattle.ds_asm.specs.Assembly.{assembled}
 use Rattle.ds_policy.specs.InputText.{input_of}
 use Rattle.ds_policy.specs.declared.command.Character.{Character}
 use Rattle.ds_policy.specs.declared.events.fault.EventsFault.{EventsFault}
@@ -12,7 +11,6 @@ use Rattle.ds_policy.specs.declared.events.fault.EventsFault.TheVariants as even
 use Rattle.ds_log.specs.Sent.{AppendsPart}
 use Rattle.ds_words.specs.declared.bare_view.BareView.{BareView}
 use Rattle.ds_bare.specs.Faults.{is_cut, may_start}
-use Rattle.ds_bare.specs.Keys.{keys_in}
 use Rattle.ds_bare.specs.Inner.Keys.{IsFaultOf}
 use Rattle.ds_bare.specs.Machine.{machine_at_start}
 use Rattle.ds_bare.specs.Runs.{IsCutBetween, bare_text, steps_told}
@@ -23,7 +21,7 @@ use Rattle.ds_station.specs.declared.fault.Fault.TheVariants as fault
 use Rattle.ds_station.proofs.Headlines.{keeps_same}
 use Rattle.ds_drive.specs.declared.failure.Failure.{Failure}
 use Rattle.ds_drive.specs.declared.failure.Failure.TheVariants as failure
-use Rattle.ds_drive.specs.BareRuns.{BareFailsBy, CutsBare, HasBareFaults, ShortBare}
+use Rattle.ds_drive.specs.BareRuns.{BareEndsBy, BareFailsBy, CutsBare, HasBareFaults, HoldsBare, IsUnreadBare, ShortBare}
 use Rattle.ds_drive.specs.Inner.BareRuns.{of_bare}
 use Rattle.ds_drive.specs.Checked.{IsInput}
 use Rattle.ds_drive.specs.Inner.Checked.{IsUnreadInput}
@@ -34,50 +32,49 @@ use Rattle.ds_drive.specs.Inner.Failures.{IsUnread}
 use Rattle.ds_drive.specs.Statuses.{fault_status}
 use Rattle.ds_drive.specs.Told.{failure_line, listed_faults}
 use Rattle.ds_words.specs.declared.words.BareRequest.{BareRequest}
+use Rattle.ds_words.specs.declared.words.BareStart.{BareStart}
 use Rattle.ds_words.specs.Words.{AsksForBare}
 
-module _ (holds : List ℕ → List ℕ → Type 0) (lacks : List ℕ → Type 0) (request : BareRequest) where
+module _ (holds : List ℕ → List ℕ → Type 0) (lacks : List ℕ → Type 0) (start : BareStart) where
   -- the source's file was not read
-  pub source_unread : (f : Failure) (known : Option (List ℕ)) → IsUnread lacks request.source.now f → BareFailsBy f holds lacks request known known
-  source_unread (failure.UnreadableFile name) known unread = (inl unread.0, subst lacks (sym unread.0) unread.1, keeps_same known)
-  source_unread (failure.Fault fault.Memory) known unread = inl (keeps_same known)
-  source_unread f known none = absurd none
+  pub source_unread : (f : Failure) → IsUnread lacks start.source.now f → IsUnreadBare f holds lacks start
+  source_unread (failure.UnreadableFile name) unread = (inl unread.0, subst lacks (sym unread.0) unread.1)
+  source_unread (failure.Fault fault.Memory) unread = tt
+  source_unread f none = absurd none
 
-  input_unread_by : (later : List ℕ → Type 0) (input : Option (Bor (List ℕ))) (f : Failure) (known : Option (List ℕ)) → ((file : List ℕ) → later file → lacks file)
-      → request.keys ≡ input → IsUnreadInput later input f → BareFailsBy f holds lacks request known known
-  input_unread_by later None f known lacked is none = absurd none
-  input_unread_by later (Some name) (failure.UnreadableFile told) known lacked is unread =
-      (inr (name, is, unread.0), lacked told.now (subst later (sym unread.0) unread.1), keeps_same known)
-  input_unread_by later (Some name) (failure.Fault fault.Memory) known lacked is unread = inl (keeps_same known)
-  input_unread_by later (Some name) f known lacked is none = absurd none
+  input_unread_by : (later : List ℕ → Type 0) (input : Option (Bor (List ℕ))) (f : Failure) → ((file : List ℕ) → later file → lacks file)
+      → start.keys ≡ input → IsUnreadInput later input f → IsUnreadBare f holds lacks start
+  input_unread_by later None f lacked is none = absurd none
+  input_unread_by later (Some name) (failure.UnreadableFile told) lacked is unread =
+      (inr (name, is, unread.0), lacked told.now (subst later (sym unread.0) unread.1))
+  input_unread_by later (Some name) (failure.Fault fault.Memory) lacked is unread = tt
+  input_unread_by later (Some name) f lacked is none = absurd none
 
   -- nor the input's
-  pub input_unread : (later : List ℕ → Type 0) (f : Failure) (known : Option (List ℕ)) → ((file : List ℕ) → later file → lacks file)
-      → IsUnreadInput later request.keys f → BareFailsBy f holds lacks request known known
-  input_unread later f known lacked unread = input_unread_by later request.keys f known lacked refl unread
-
-  -- want of memory before the run
-  pub memory_keeps : (known : Option (List ℕ)) → BareFailsBy (failure.Fault fault.Memory) holds lacks request known known
-  memory_keeps known = inl (keeps_same known)
+  pub input_unread : (later : List ℕ → Type 0) (f : Failure) → ((file : List ℕ) → later file → lacks file)
+      → IsUnreadInput later start.keys f → IsUnreadBare f holds lacks start
+  input_unread later f lacked unread = input_unread_by later start.keys f lacked refl unread
 
   -- a line of the input is wrong
-  pub wrong_line : (e : EventsFault) (input : List ℕ) (known : Option (List ℕ)) → IsInput holds request.keys input → IsFaultOf (input_of [] input) e
-      → BareFailsBy (failure.Fault (of_events e)) holds lacks request known known
-  wrong_line (events.InputFault line) input known held wrong = (record { input = input; held = held; wrong = wrong }, keeps_same known)
-  wrong_line events.Memory input known held wrong = inl (keeps_same known)
+  pub wrong_line : (e : EventsFault) (input : List ℕ) → IsInput holds start.keys input → IsFaultOf (input_of [] input) e
+      → IsUnreadBare (failure.Fault (of_events e)) holds lacks start
+  wrong_line (events.InputFault line) input held wrong = record { input = input; held = held; wrong = wrong }
+  wrong_line events.Memory input held wrong = tt
 
-  -- the run was refused, or cut short
-  pub run_fails : (e : BareFault) (source input image : List ℕ) (keys : List Character) (old new : Option (List ℕ))
-      → holds request.source.now source → IsInput holds request.keys input → assembled source ≡ Ok image → keys_in (input_of [] input) ≡ Ok keys
-      → is_cut e ≡ may_start request.random → (is_cut e ≡ false → Keeps old new)
-      → AppendsPart old new (bare_text request.view image request.random request.most keys)
-      → (e ≡ bare.Memory → IsCutBetween old new request.view request.most (machine_at_start image request.random keys))
+module _ (holds : List ℕ → List ℕ → Type 0) (lacks : List ℕ → Type 0) (request : BareRequest) where
+  -- the run can't begin
+  pub never_begun : (f : Failure) (known : Option (List ℕ)) → IsUnreadBare f holds lacks request.start → BareFailsBy f holds lacks request known known
+  never_begun f known unread = inl (unread, keeps_same known)
+
+  -- it was refused, or cut short
+  pub run_fails : (e : BareFault) (image : List ℕ) (keys : List Character) (old new : Option (List ℕ)) → HoldsBare holds request.start image keys
+      → is_cut e ≡ may_start request.start.random → (is_cut e ≡ false → Keeps old new)
+      → AppendsPart old new (bare_text request.view image request.start.random request.start.most keys)
+      → (e ≡ bare.Memory → IsCutBetween old new request.view request.start.most (machine_at_start image request.start.random keys))
       → BareFailsBy (failure.Fault (of_bare e)) holds lacks request old new
-  run_fails bare.BadRandom source input image keys old new source_held input_held assembles says starts kept part short = (sym starts, kept refl)
-  run_fails bare.WriteFault source input image keys old new source_held input_held assembles says starts kept part short =
-      record { source = source; input = input; image = image; keys = keys; source_held = source_held; input_held = input_held; assembles = assembles; says = says; starts = sym starts; so = part }
-  run_fails bare.Memory source input image keys old new source_held input_held assembles says starts kept part short =
-      inr (record { source = source; input = input; image = image; keys = keys; source_held = source_held; input_held = input_held; assembles = assembles; says = says; starts = sym starts; so = short refl })
+  run_fails bare.BadRandom image keys old new held starts kept part short = inr (sym starts, kept refl)
+  run_fails bare.WriteFault image keys old new held starts kept part short = inr (record { image = image; keys = keys; held = held; starts = sym starts; so = part })
+  run_fails bare.Memory image keys old new held starts kept part short = inr (record { image = image; keys = keys; held = held; starts = sym starts; so = short refl })
 
 -- a run that was cut between two instructions has told a front of its text
 short_part : (image : List ℕ) (random : ℕ) (view : BareView) (most : ℕ) (keys : List Character) (old new : Option (List ℕ)) → IsCutBetween old new view most (machine_at_start image random keys) → AppendsPart old new (bare_text view image random most keys)
@@ -87,28 +84,27 @@ short_part image random view most keys old new cut =
 
 short_cuts : (holds : List ℕ → List ℕ → Type 0) (request : BareRequest) (old new : Option (List ℕ)) → ShortBare holds request old new → CutsBare holds request old new
 short_cuts holds request old new s = record {
-  source = s.source;
-  input = s.input;
   image = s.image;
   keys = s.keys;
-  source_held = s.source_held;
-  input_held = s.input_held;
-  assembles = s.assembles;
-  says = s.says;
+  held = s.held;
   starts = s.starts;
-  so = short_part s.image request.random request.view request.most s.keys old new s.so;
+  so = short_part s.image request.start.random request.view request.start.most s.keys old new s.so;
 }
 
 -- whatever the failure, nothing is written, or a front of the text of the run
+cut_leaves : (holds : List ℕ → List ℕ → Type 0) (request : BareRequest) (f : Failure) (old new : Option (List ℕ)) → BareEndsBy f holds request old new → Keeps old new ⊎ CutsBare holds request old new
+cut_leaves holds request (failure.Fault fault.BadRandom) old new refused = inl refused.1
+cut_leaves holds request (failure.Fault fault.WriteFault) old new cut = inr cut
+cut_leaves holds request (failure.Fault fault.Memory) old new short = inr (short_cuts holds request old new short)
+cut_leaves holds request f old new none = absurd none
+
 pub bare_cut : (words : List Text) (holds : List ℕ → List ℕ → Type 0) (lacks : List ℕ → Type 0) (request : BareRequest) (f : Failure) (old new : Option (List ℕ)) → AsksForBare words request
     → BareFailsBy f holds lacks request old new → IsCutShort words holds old new
-bare_cut words holds lacks request (failure.Fault fault.WriteFault) old new asks cut = inr (inr (inr (inr (inr (inl (request, asks, cut))))))
-bare_cut words holds lacks request (failure.Fault fault.Memory) old new asks (inl kept) = inl kept
-bare_cut words holds lacks request (failure.Fault fault.Memory) old new asks (inr short) = inr (inr (inr (inr (inr (inl (request, asks, short_cuts holds request old new short))))))
-bare_cut words holds lacks request (failure.Fault fault.BadRandom) old new asks refused = inl refused.1
-bare_cut words holds lacks request (failure.Fault (fault.InputFault line)) old new asks refused = inl refused.1
-bare_cut words holds lacks request (failure.UnreadableFile name) old new asks unread = inl unread.2
-bare_cut words holds lacks request f old new asks none = absurd none
+bare_cut words holds lacks request f old new asks (inl unread) = inl unread.1
+bare_cut words holds lacks request f old new asks (inr ends) = elim (cut_leaves holds request f old new ends) [
+  | inl kept ↦ inl kept
+  | inr cut ↦ inr (inr (inr (inr (inr (inl (request, asks, cut))))))
+]
 
 -- What the program says of it.
 module _ (words : List Text) (holds : List ℕ → List ℕ → Type 0) (lacks : List ℕ → Type 0) (status : ℕ) (old new : Option (List ℕ)) (err : Listener) where
@@ -116,6 +112,6 @@ module _ (words : List Text) (holds : List ℕ → List ℕ → Type 0) (lacks :
       → IsToldText err (failure_line f) → IsStopped status words holds lacks (stream old new) err
   bare_stopped request f has asks fails told = inr (inr (inr (inr (inl (request, asks, inl (record { failure = f; has = has; so = fails; told = told }))))))
 
-  pub bare_faulty : (request : BareRequest) (text : List ℕ) (faults : List SourceFault) → status ≡ 2 → AsksForBare words request → HasBareFaults holds request text faults → Keeps old new
-      → TellsSome err [] (listed_faults request.source.now text faults) → IsStopped status words holds lacks (stream old new) err
+  pub bare_faulty : (request : BareRequest) (text : List ℕ) (faults : List SourceFault) → status ≡ 2 → AsksForBare words request → HasBareFaults holds request.start text faults → Keeps old new
+      → TellsSome err [] (listed_faults request.start.source.now text faults) → IsStopped status words holds lacks (stream old new) err
   bare_faulty request text faults has asks are kept told = inr (inr (inr (inr (inl (request, asks, inr (record { has = has; text = text; faults = faults; are = are; kept = kept; told = told }))))))

@@ -1,4 +1,5 @@
 pub mod BareLemmas
+pub mod BareDebugging
 pub mod BareOrders
 pub mod Coming
 pub mod Cuts

@@ -22,7 +22,7 @@ use Rattle.ds_drive.specs.Statuses.{fault_status}
 use Rattle.ds_drive.proofs.Readings.{none_read, read_all, run_read_until, until_so}
 
 -- what is told of a file that was not read has its status
-has_status : (f : Failure) (status : ℕ) (unread : Option (List ℕ × FileFault)) → status ≡ fault_status (failure_number f) → TellsOf f unread → HasStatus status unread
+pub has_status : (f : Failure) (status : ℕ) (unread : Option (List ℕ × FileFault)) → status ≡ fault_status (failure_number f) → TellsOf f unread → HasStatus status unread
 has_status f status None is tells = tt
 has_status (failure.Fault fault.Memory) status (Some (name, file.Memory)) is tells = is
 has_status (failure.UnreadableFile told) status (Some (name, file.Unreadable)) is tells = is
@@ -49,7 +49,7 @@ module _ (status : ℕ) (words : List Text) (holds : List ℕ → List ℕ → T
   list_until : (request : ListRequest) → AsksForList words request → ReadsUntil (HasStatus status) (request.file.now ∷ []) old new → ReadsFor status words holds old new
   list_until request asks r = inr (inr (inl (request, asks, r)))
 
-  bare_until : (request : BareRequest) → AsksForBare words request → ReadsUntil (HasStatus status) (bare_names request) old new → ReadsFor status words holds old new
+  bare_until : (request : BareRequest) → AsksForBare words request → ReadsUntil (HasStatus status) (bare_names request.start) old new → ReadsFor status words holds old new
   bare_until request asks r = inr (inr (inr (inr (inl (request, asks, r)))))
 
   -- the files of a run were read
@@ -77,11 +77,11 @@ module _ (status : ℕ) (words : List Text) (holds : List ℕ → List ℕ → T
       inr (inr (inr (inl (request, asks, run_until_so (TellsOfRun request.inside f) (HasStatus status) (λ u t. has_status_run request.inside f status u has t) holds request.policy.now (input_names request.input) old new r))))
 
   -- those of a run on the bare machine
-  pub bare_reads : (request : BareRequest) → AsksForBare words request → ReadsAll (bare_names request) old new → ReadsFor status words holds old new
-  bare_reads request asks r = bare_until request asks (read_all (HasStatus status) (bare_names request) old new r tt)
+  pub bare_reads : (request : BareRequest) → AsksForBare words request → ReadsAll (bare_names request.start) old new → ReadsFor status words holds old new
+  bare_reads request asks r = bare_until request asks (read_all (HasStatus status) (bare_names request.start) old new r tt)
 
-  pub bare_reads_until : (request : BareRequest) (f : Failure) → status ≡ fault_status (failure_number f) → AsksForBare words request → ReadsUntil (TellsOf f) (bare_names request) old new → ReadsFor status words holds old new
-  bare_reads_until request f has asks r = bare_until request asks (until_so (TellsOf f) (HasStatus status) (λ u t. has_status f status u has t) (bare_names request) old new r)
+  pub bare_reads_until : (request : BareRequest) (f : Failure) → status ≡ fault_status (failure_number f) → AsksForBare words request → ReadsUntil (TellsOf f) (bare_names request.start) old new → ReadsFor status words holds old new
+  bare_reads_until request f has asks r = bare_until request asks (until_so (TellsOf f) (HasStatus status) (λ u t. has_status f status u has t) (bare_names request.start) old new r)
 
   -- those of a trace
   pub trace_reads : (request : TraceRequest) → AsksForTrace words request → ReadsRun holds request.run.policy.now (request.run.input.now ∷ []) old new → ReadsFor status words holds old new

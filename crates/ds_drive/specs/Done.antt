@@ -8,6 +8,7 @@ use Rattle.ds_station.specs.Headline.{Begins, WritesPart, EndsBy}
 use Rattle.ds_station.specs.declared.fault.Fault.{Fault}
 use Rattle.ds_drive.specs.declared.failure.Failure.{Failure}
 use Rattle.ds_words.specs.declared.words.BareRequest.{BareRequest}
+use Rattle.ds_words.specs.declared.words.BareStart.{BareStart}
 use Rattle.ds_words.specs.declared.words.CheckRequest.{CheckRequest}
 use Rattle.ds_words.specs.declared.words.ExplainRequest.{ExplainRequest}
 use Rattle.ds_words.specs.declared.words.ListRequest.{ListRequest}
@@ -118,13 +119,13 @@ pub record IsFaulty (status : ℕ) (holds : List ℕ → List ℕ → Type 0) (r
   pub told : TellsSome err [] (listed_faults request.file.now text faults)
 
 -- so where the source was to run on the bare machine
-pub record IsFaultyBare (status : ℕ) (holds : List ℕ → List ℕ → Type 0) (request : BareRequest) (out : Stream) (err : Listener) : Type 0 where
+pub record IsFaultyBare (status : ℕ) (holds : List ℕ → List ℕ → Type 0) (start : BareStart) (out : Stream) (err : Listener) : Type 0 where
   pub has : status ≡ 2
   pub text : List ℕ
   pub faults : List SourceFault
-  pub are : HasBareFaults holds request text faults
+  pub are : HasBareFaults holds start text faults
   pub kept : Keeps out.old out.new
-  pub told : TellsSome err [] (listed_faults request.source.now text faults)
+  pub told : TellsSome err [] (listed_faults start.source.now text faults)
 
 -- a refusal of this status, of which this holds, was told
 pub record RefusesWith (status : ℕ) (err : Listener) (P : Refused → Type 0) : Type 0 where
@@ -148,7 +149,7 @@ IsStopped status words holds lacks out err =
     ⊎ (((request : RunRequest) × AsksForRun words request × FailsWith status err (λ f. StopsBy f holds lacks request out.old out.new))
     ⊎ (((request : ListRequest) × AsksForList words request × (FailsWith status err (λ f. FailsBy f holds lacks request out.old out.new) ⊎ IsFaulty status holds request out err))
     ⊎ (((request : CheckRequest) × AsksForCheck words request × (RefusesWith status err (λ r. ChecksBy r holds lacks request out.old out.new) ⊎ IsNoted status holds request out err))
-    ⊎ (((request : BareRequest) × AsksForBare words request × (FailsWith status err (λ f. BareFailsBy f holds lacks request out.old out.new) ⊎ IsFaultyBare status holds request out err))
+    ⊎ (((request : BareRequest) × AsksForBare words request × (FailsWith status err (λ f. BareFailsBy f holds lacks request out.old out.new) ⊎ IsFaultyBare status holds request.start out err))
     ⊎ (((request : TraceRequest) × AsksForTrace words request × FailsWith status err (λ f. TraceStopsBy f holds lacks request out.old out.new))
     ⊎ (((request : Request) × AsksForDebug words request × (FailsWith status err (λ f. DebugStopsBy f holds lacks request out.old out.new) ⊎ IsUnheard status holds request out.old out.new err))
     ⊎ ((request : ExplainRequest) × AsksForExplain words request × FailsWith status err (λ f. ExplainStopsBy f holds lacks request out.old out.new))))))))

@@ -2,6 +2,7 @@
 pub mod AtFault
 pub mod BareOrder
 pub mod BareRuns
+pub mod BareDebugged
 pub mod Checked
 pub mod Done
 pub mod Failures

@@ -1,5 +1,6 @@
 pub mod AtFault
 pub mod BareRuns
+pub mod BareDebugged
 pub mod Demo
 pub mod Listed
 pub mod Names

@@ -8,6 +8,7 @@ use Rattle.ds_policy.specs.Refusal.{PolicyRefusal}
 use Rattle.ds_policy.specs.Value.{PolicyValue}
 use Rattle.ds_words.specs.Words.{AsksForBare, AsksForCheck, AsksForDebug, AsksForExplain, AsksForList, AsksForRun, AsksForTrace}
 use Rattle.ds_words.specs.declared.words.BareRequest.{BareRequest}
+use Rattle.ds_words.specs.declared.words.BareStart.{BareStart}
 use Rattle.ds_words.specs.declared.words.CheckRequest.{CheckRequest}
 use Rattle.ds_words.specs.declared.words.ExplainRequest.{ExplainRequest}
 use Rattle.ds_words.specs.declared.words.ListRequest.{ListRequest}
@@ -63,8 +64,8 @@ input_names None = []
 input_names (Some name) = name.now ∷ []
 
 -- the files of a run on the bare machine: the source's, and then the input's
-abbrev pub bare_names : BareRequest → List (List ℕ)
-bare_names request = request.source.now ∷ input_names request.keys
+abbrev pub bare_names : BareStart → List (List ℕ)
+bare_names start = start.source.now ∷ input_names start.keys
 
 -- the files of a run: the policy's, then the input's, then those of the sources that a policy with this text names
 abbrev pub run_names : List ℕ → List (List ℕ) → List ℕ → List (List ℕ)
@@ -89,7 +90,7 @@ ReadsFor status words holds old new =
     ⊎ (((request : RunRequest) × AsksForRun words request × ReadsRunUntil (HasStatus status) holds request.run.policy.now (request.run.input.now ∷ []) old new)
     ⊎ (((request : ListRequest) × AsksForList words request × ReadsUntil (HasStatus status) (request.file.now ∷ []) old new)
     ⊎ (((request : CheckRequest) × AsksForCheck words request × ReadsRunUntil (HasStatus status) holds request.policy.now (input_names request.input) old new)
-    ⊎ (((request : BareRequest) × AsksForBare words request × ReadsUntil (HasStatus status) (bare_names request) old new)
+    ⊎ (((request : BareRequest) × AsksForBare words request × ReadsUntil (HasStatus status) (bare_names request.start) old new)
     ⊎ (((request : TraceRequest) × AsksForTrace words request × ReadsRunUntil (HasStatus status) holds request.run.policy.now (request.run.input.now ∷ []) old new)
     ⊎ (((request : Request) × AsksForDebug words request × ReadsRunUntil (HasStatus status) holds request.policy.now (request.input.now ∷ []) old new)
     ⊎ ((request : ExplainRequest) × AsksForExplain words request × ReadsRunUntil (HasStatus status) holds request.run.policy.now (request.run.input.now ∷ []) old new)))))))

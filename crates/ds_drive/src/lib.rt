@@ -2,6 +2,7 @@
 #![tactic(auto)]
 
 mod bare;
+mod bare_debug;
 mod check;
 mod debug;
 mod demo;
@@ -28,11 +29,13 @@ mod windows;
 mod without_input;
 
 pub use bare::bare_file;
+pub use bare_debug::{debug_bare_file, drive_bare_debug};
 pub use check::{Checking, check_files};
 pub use debug::debug_files;
 pub use ds_words::{
-    BareOnly, BareRequest, BareView, CheckRequest, ExplainRequest, Extras, ListRequest, Request,
-    RunRequest, Span, Spans, TraceRequest, Window, Windows, Wish, program_words, wish_of,
+    BareOnly, BareRequest, BareStart, BareView, CheckRequest, ExplainRequest, Extras, ListRequest,
+    Request, RunRequest, Span, Spans, TraceRequest, Window, Windows, Wish, is_bare_debug,
+    program_words, wish_of,
 };
 pub use explain::explain_files;
 pub use failure::Failure;

@@ -129,7 +129,9 @@ pub fn drive_with_input<F: Files, R: Read, W: Write, E: Output>(
         },
         Ok(Ok(Wish::Bare(request))) => match bare_file(alloc, &request, files, out) {
             Ok(Listing::Written) => DONE,
-            Ok(Listing::Faults(source)) => tell_faults(alloc, err, request.source, &source),
+            Ok(Listing::Faults(source)) => {
+                tell_faults(alloc, err, request.start.source, &source)
+            }
             Err(failure) => tell(err, &failure),
         },
         Ok(Ok(Wish::Debug(request))) => match debug_files(alloc, &request, files, input, out) {
@@ -174,7 +176,7 @@ pub fn drive_with_input<F: Files, R: Read, W: Write, E: Output>(
 
 /// Tells what is wrong with the words, or the help that they ask for, as far as there is memory for
 /// the text.
-fn tell_words<E: Output>(alloc: Global, err: &mut E, error: &clap::Error) {
+pub(crate) fn tell_words<E: Output>(alloc: Global, err: &mut E, error: &clap::Error) {
     let mut text = String::new(alloc);
     let _ = write!(text, "{error}");
     let _ = send(err, text.as_bytes());

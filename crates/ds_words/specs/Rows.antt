@@ -2,3 +2,4 @@
 pub mod SpanRows
 pub mod ViewRows
 pub mod WindowRows
+pub mod BareDebugRows

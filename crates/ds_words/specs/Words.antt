@@ -4,6 +4,7 @@ use Rattle.std.specs.Str.Parse.{IsNumeral, digits_value, without_leading_plus}
 use Rattle.std.specs.List.{All}
 use Rattle.clap.specs.Words.{App, Row, Rule, Text, all_of, fault_of, first_of, many_of, one_of, new_app, new_rule, subcommand_of, with_rule, with_subcommand}
 use Rattle.ds_words.specs.declared.words.BareRequest.{BareRequest}
+use Rattle.ds_words.specs.declared.words.BareStart.{BareStart}
 use Rattle.ds_words.specs.declared.words.CheckRequest.{CheckRequest}
 use Rattle.ds_words.specs.declared.words.ListRequest.{ListRequest}
 use Rattle.ds_words.specs.declared.view.Only.{Only}
@@ -391,14 +392,17 @@ pub record NamesBareView (rows : List Row) (view : BareView) : Type 0 where
   pub flags : NamesBareFlags rows view
   pub forward : (to : ℕ) → view.to ≡ Some to → view.from ≤ to
 
--- what stands after `bare` names the source, the numbers and an input where one is wanted, and says
--- what is told
+-- words name the source of a run on the bare machine, its numbers, and an input where one is wanted
+pub record NamesBareStart (rows : List Row) (start : BareStart) : Type 0 where
+  pub source : first_of (codes "SOURCE") rows ≡ Some start.source.now
+  pub most : IsNumber 32 (one_of (codes "N") rows) start.most
+  pub random : IsNumber 8 (one_of (codes "R") rows) start.random
+  pub keys : first_of (codes "INPUT") rows ≡ option_map (λ s. s.now) start.keys
+
+-- what stands after `bare` names that, and says what is told
 pub record NamesBare (rows : List Row) (request : BareRequest) : Type 0 where
-  pub source : first_of (codes "SOURCE") rows ≡ Some request.source.now
-  pub most : IsNumber 32 (one_of (codes "N") rows) request.most
-  pub random : IsNumber 8 (one_of (codes "R") rows) request.random
+  pub start : NamesBareStart rows request.start
   pub view : NamesBareView rows request.view
-  pub keys : first_of (codes "INPUT") rows ≡ option_map (λ s. s.now) request.keys
 
 -- clap takes the words, and they ask for a run of this source on the bare machine
 pub record AsksForBare (words : List Text) (request : BareRequest) : Type 0 where

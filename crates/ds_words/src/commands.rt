@@ -211,14 +211,14 @@ const NAMES_HELP: &str =
 const TIME_HELP: &str =
     "How many ticks the run goes on, from 0 to 1000000000; a branch at the end takes one more";
 
-fn file_argument<'a>(alloc: Global, id: &'a str, help: &'a str) -> Arg<'a>
+pub(crate) fn file_argument<'a>(alloc: Global, id: &'a str, help: &'a str) -> Arg<'a>
     ensures rule { rule_of result ≡ required_rule id.entry.now }
     ensures local { result.global ≡ false }
 {
     Arg::new(alloc, id).required(true).help(help)
 }
 
-fn time_argument<'a>(alloc: Global, help: &'a str) -> Arg<'a>
+pub(crate) fn time_argument<'a>(alloc: Global, help: &'a str) -> Arg<'a>
     ensures rule { rule_of result ≡ time_rule }
     ensures local { result.global ≡ false }
 {
@@ -228,7 +228,7 @@ fn time_argument<'a>(alloc: Global, help: &'a str) -> Arg<'a>
         .help(help)
 }
 
-fn random_argument<'a>(alloc: Global) -> Arg<'a>
+pub(crate) fn random_argument<'a>(alloc: Global) -> Arg<'a>
     ensures rule { rule_of result ≡ random_rule }
     ensures local { result.global ≡ false }
 {
@@ -518,7 +518,7 @@ fn list_command<'a>(alloc: Global) -> Result<Command<'a>, AllocError>
     .arg(flag_argument(alloc, "names", NAMES_HELP))
 }
 
-fn keys_argument<'a>(alloc: Global) -> Arg<'a>
+pub(crate) fn keys_argument<'a>(alloc: Global) -> Arg<'a>
     ensures rule { rule_of result ≡ keys_rule }
     ensures local { result.global ≡ false }
 {

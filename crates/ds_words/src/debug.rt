@@ -15,11 +15,12 @@ input and standard output, so gdb starts the program itself. The processes of th
 processes. There are breakpoints, steps forward and backward, registers and memory as they are granted,
 and `monitor log`, `table`, `time`, `processes`, `console L` and `stop T`; a denial stops its process
 by a signal. Nothing of the run can be changed. The session ends where gdb ends it or the input ends,
-and the status is 0 then.
+and the status is 0 then. After `debug --bare` stand SOURCE and N, of a run on the bare machine.
 
 Examples:
   gdb-multiarch -x tools/debug.gdb -ex 'target remote | dsmon debug policy.toml input.txt 100000'
   dsmon debug policy.toml input.txt 100000 < packets.txt
+  dsmon debug --bare handler.s 300 < packets.txt
 
 docs/debug.md has a session step by step.";
 

@@ -2,6 +2,7 @@
 //! on the bare machine are told.
 #![tactic(auto)]
 
+mod bare_debug;
 mod bare_view;
 mod commands;
 mod debug;
@@ -12,12 +13,13 @@ mod view;
 mod windows;
 mod words;
 
+pub use bare_debug::{bare_debug_of, is_bare_debug};
 pub use bare_view::{BareOnly, BareView};
 pub use processes::Processes;
 pub use spans::{Span, Spans};
 pub use view::{Only, View};
 pub use windows::{Window, Windows};
 pub use words::{
-    BareRequest, CheckRequest, ExplainRequest, Extras, ListRequest, Request, RunRequest,
+    BareRequest, BareStart, CheckRequest, ExplainRequest, Extras, ListRequest, Request, RunRequest,
     TraceRequest, Untaken, Wish, program_words, wish_of,
 };

@@ -5,7 +5,7 @@ ghost use Rattle.clap.specs.Words.{FailsBy, all_of, fault_of, first_of, found_of
 ghost use Rattle.ds_words.specs.Spans.{IsSpan, spans_in};
 ghost use Rattle.ds_words.specs.Windows.{IsWindow, windows_in};
 ghost use Rattle.ds_words.specs.declared.windows.Window.{Window};
-ghost use Rattle.ds_words.specs.Words.{AsksForBare, AsksForCheck, AsksForDebug, AsksForExplain, AsksForList, AsksForRun, AsksForSomething, AsksForTrace, IsGiven, MisnamesMemory, NamesAskedRun, NamesBare, NamesCheck, NamesExplain, NamesExtras, NamesList, NamesMemory, NamesProcesses, NamesRun, NamesTrace, NamesView, WriteProcesses, command_named, dsmon_app, kind_word, NamesBareFlags, NamesBareView, NamesSpans, bare_kind_word, CallsRegisters};
+ghost use Rattle.ds_words.specs.Words.{AsksForBare, AsksForCheck, AsksForDebug, AsksForExplain, AsksForList, AsksForRun, AsksForSomething, AsksForTrace, IsGiven, MisnamesMemory, NamesAskedRun, NamesBare, NamesBareStart, NamesCheck, NamesExplain, NamesExtras, NamesList, NamesMemory, NamesProcesses, NamesRun, NamesTrace, NamesView, WriteProcesses, command_named, dsmon_app, kind_word, NamesBareFlags, NamesBareView, NamesSpans, bare_kind_word, CallsRegisters};
 
 use crate::bare_view::{BareOnly, BareView};
 use crate::commands::command;
@@ -101,19 +101,25 @@ pub struct CheckRequest<'a> {
     pub inside: bool,
 }
 
-/// A source that the words want run on the bare machine.
+/// What a run on the bare machine starts with, as the words name it.
 #[derive(Clone, Copy, Debug, PartialEq, Eq)]
-pub struct BareRequest<'a> {
+pub struct BareStart<'a> {
     /// The name of the source's file.
     pub source: &'a str,
     /// The most instructions, from 0 to 1,000,000,000.
     pub most: u32,
     /// Where the register Random starts.
     pub random: u8,
-    /// What is told.
-    pub view: BareView,
     /// The name of the file of an input, whose characters come in.
     pub keys: Option<&'a str>,
+}
+
+/// A source that the words want run on the bare machine.
+#[derive(Clone, Copy, Debug, PartialEq, Eq)]
+pub struct BareRequest<'a> {
+    pub start: BareStart<'a>,
+    /// What is told.
+    pub view: BareView,
 }
 
 /// What the words ask for.
@@ -494,17 +500,29 @@ fn bare_view_of<'a>(found: &ArgMatches<'a>) -> Option<BareView>
     Some(view)
 }
 
-/// What the words after `bare` ask for.
-fn bare_request_of<'a>(found: &ArgMatches<'a>) -> Option<BareRequest<'a>>
-    ensures some { IfSome result (λ request. NamesBare (rows_of (found_of found.now)) request) }
-    ensures none { result ≡ None → (request : BareRequest) → ¬ NamesBare (rows_of (found_of found.now)) request }
+/// What a run on the bare machine starts with, by what clap found.
+pub(crate) fn bare_start_of<'a>(found: &ArgMatches<'a>) -> Option<BareStart<'a>>
+    ensures some { IfSome result (λ start. NamesBareStart (rows_of (found_of found.now)) start) }
+    ensures none { result ≡ None → (start : BareStart)
+        → ¬ NamesBareStart (rows_of (found_of found.now)) start }
 {
-    Some(BareRequest {
+    Some(BareStart {
         source: found.get_str("SOURCE")?,
         most: found.get_one("N")?,
         random: found.get_one("R")?,
-        view: bare_view_of(found)?,
         keys: found.get_str("INPUT"),
+    })
+}
+
+/// What the words after `bare` ask for.
+fn bare_request_of<'a>(found: &ArgMatches<'a>) -> Option<BareRequest<'a>>
+    ensures some { IfSome result (λ request. NamesBare (rows_of (found_of found.now)) request) }
+    ensures none { result ≡ None → (request : BareRequest)
+        → ¬ NamesBare (rows_of (found_of found.now)) request }
+{
+    Some(BareRequest {
+        start: bare_start_of(found)?,
+        view: bare_view_of(found)?,
     })
 }
 

@@ -23,6 +23,7 @@ use Rattle.ds_drive.proofs.Untaken.{taken_for_memory}
 use Rattle.ds_drive.proofs.Debugging.{debug_cut, debug_done, debug_stopped, debug_unwritten, unheard_cut, unheard_stopped}
 use Rattle.ds_drive.proofs.ExplainLemmas.{explain_cut, explain_done, explain_stopped, explain_unwritten}
 use Rattle.ds_drive.proofs.Wishes.{asks_bare, asks_debug, asks_explain, asks_nothing, asks_run, asks_trace}
+use Rattle.ds_words.specs.Words.{dsmon_app}
 use Rattle.ds_words.proofs.WordLemmas.{alone, fails_for_memory, only_memory_fails}
 use Rattle.ds_drive.proofs.program.drive_with_input.Goals as goal
 
@@ -68,7 +69,7 @@ returns-in-Err-2-clause-taken g c asked =
 
 pub returns-in-Err-2-clause-kind : goal.returns-in-Err-2-clause-kind
 returns-in-Err-2-clause-kind g c one taken =
-    let memory = taken_for_memory (map string_bytes c.args.words.now) c.in-Err-2.error taken c.in-Err-2.ensures.refused in
+    let memory = taken_for_memory dsmon_app (map string_bytes c.args.words.now) c.in-Err-2.error taken c.in-Err-2.ensures.refused in
     search (rules, memory)
 
 pub returns-in-Ok-Faults-clause-stopped : goal.returns-in-Ok-Faults-clause-stopped

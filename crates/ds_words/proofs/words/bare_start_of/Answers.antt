@@ -3,7 +3,7 @@ use Rattle.std.specs.Str.Parse.{ParsesUnsigned, ExplainsUnsignedError, HasUnsign
 use Rattle.clap.specs.Words.{found_of}
 use Rattle.clap.proofs.WalkLemmas.{first_value-rows}
 use Rattle.ds_words.proofs.Requests.{word_found, word_wanting, number_found, number_wanting}
-use Rattle.ds_words.proofs.words.bare_request_of.Goals as goal
+use Rattle.ds_words.proofs.words.bare_start_of.Goals as goal
 
 pub returns-clause-some : goal.returns-clause-some
 returns-clause-some c =
@@ -12,7 +12,6 @@ returns-clause-some c =
       source = word_found found _ c.get_str.result c.in_ok-get_str.field-0 c.get_str.ensures c.in_ok-get_str.was;
       most = number_found (λ bs r. ParsesUnsigned 32 10 bs r × ExplainsUnsignedError 10 bs r × HasUnsignedDigitsIfOk bs r) 32 found _ c.get_one.result _ (λ t x g. g.0) c.get_one.ensures.none (λ t e. c.get_one.ensures.value t e) c.in_ok-get_one.was;
       random = number_found (λ bs r. ParsesUnsigned 8 10 bs r × ExplainsUnsignedError 10 bs r × HasUnsignedDigitsIfOk bs r) 8 found _ c.get_one-2.result _ (λ t x g. g.0) c.get_one-2.ensures.none (λ t e. c.get_one-2.ensures.value t e) c.in_ok-get_one-2.was;
-      view = c.in_ok-bare_view_of.ensures.some;
       keys = sym (first_value-rows found _) ∙ sym c.get_str-2.ensures;
     }
 
