@@ -6,7 +6,7 @@
     bench/families.py --alone PROGRAM      host instructions of one call alone, where nearly nothing is shared
     bench/families.py --guest DSMON        seconds of processor time of a million ticks of a guest that drops and gives, with full tables
 
-PROGRAM is part_cases, as `(cd crates/part_cases && rt run)` proves and builds it. It replays two files over both buffers: the
+PROGRAM is rows, as `(cd crates/rows && rt run)` proves and builds it. It replays two files over both buffers: the
 shares, and the shares with a call after them; a call is half of the difference, of the least of nine runs each, which may be wrong by
 20 milliseconds. What the program compares after each call, the page-table words of all 25,600 places, is a part of it. 100
 processes have 256 entries each:
@@ -34,8 +34,8 @@ import tempfile
 from pathlib import Path
 
 TOP = Path(__file__).resolve().parent.parent
-PROGRAM = TOP / "crates" / "part_cases" / "out" / "part_cases"
-DATA = TOP / "crates" / "part_cases" / "data"
+PROGRAM = TOP / "crates" / "rows" / "out" / "rows"
+FILE = "parts/grants/families.txt"
 PROCESSES, ENTRIES, RUNS = 100, 256, 9
 CALLGRIND = ["valgrind", "--tool=callgrind", "--callgrind-out-file=/dev/null"]
 
@@ -110,19 +110,17 @@ def count_alone(program):
 
 
 def replayed(program, lines, words=()):
-    """Replays a file, with all others empty; what it took, by the system's count or by callgrind's."""
+    """Replays a file alone; what it took, by the system's count or by callgrind's."""
+    index = "".join(f"grants {FILE} {buffer}\n" for buffer in ("searched", "indexed"))
     with tempfile.TemporaryDirectory() as folder:
-        for file in DATA.rglob("*"):
-            if file.is_file() and file.parts[-2] != "programs":
-                there = Path(folder) / file.relative_to(DATA)
-                there.parent.mkdir(parents=True, exist_ok=True)
-                there.write_text("")
-        (Path(folder) / "grants" / "families.txt").write_text("\n".join(lines) + "\n")
+        (Path(folder) / FILE).parent.mkdir(parents=True)
+        for name, text in {"rows": "", "tables": "", "told": "", "parts/index": index, FILE: "\n".join(lines) + "\n"}.items():
+            (Path(folder) / name).write_text(text)
         before = resource.getrusage(resource.RUSAGE_CHILDREN).ru_utime
         ran = subprocess.run([*words, program], cwd=folder, capture_output=True, text=True)
         took = resource.getrusage(resource.RUSAGE_CHILDREN).ru_utime - before
-    told = re.findall(r"grants/families.txt, \w+ buffer: \d+ calls, \d+ other lines, (\d+) differ", ran.stdout)
-    if told != ["0", "0"]:
+    told = re.findall(rf"^grants {FILE} (\w+): {len(lines)} as expected$", ran.stdout, re.M)
+    if told != ["searched", "indexed"]:
         sys.exit(f"{program}: {ran.stdout[-2000:]}{ran.stderr[-2000:]}")
     counted = re.search(r"Collected : (\d+)", ran.stderr)
     return int(counted[1]) if counted else took

@@ -5,7 +5,7 @@
     tools/figures.py --check         says where the page differs from what is counted now; the status is 1 then
     tools/figures.py --seconds FILE  takes the processor seconds of a file of `tools/gate_times.py --keep` over into tools/figures.json, then writes the page
 
-What is counted: wrong bodies by crate, rows, tables and their cases, words that run nothing, and what the programs that run cases print. What is measured lies in
+What is counted: wrong bodies by crate, rows, tables and their cases, words that run nothing, and the lines on parts. What is measured lies in
 tools/figures.json: `runs`, whole commands with their minutes, which are written there by hand; `seconds`, by crate and kind, with the day.
 """
 import json
@@ -76,22 +76,21 @@ def words_of(top, path):
 def rows_of(top):
     """The part on rows, tables and cases."""
     rows, tables = words_of(top, "crates/rows/data/rows"), words_of(top, "crates/rows/data/tables")
-    told = words_of(top, "crates/rows/data/told")
-    lines = [it for it in words_of(top, "crates/rows/stdout") if not it.startswith("told: ")]
-    cases = sum(int(it[1]) for it in (re.search(r": (\d+) as expected\Z", line) for line in lines) if it)
+    told, parts = [words_of(top, f"crates/rows/data/{it}") for it in ("told", "parts/index")]
+    outcomes = dict(it.rsplit(": ", 1) for it in words_of(top, "crates/rows/stdout") if ": " in it)
+    cases = {line: int(outcomes.get(line, "0").split()[0]) for line in [*tables, *parts] if outcomes.get(line) != "as expected"}
     counted = [
         ["rows", len(rows)],
         ["of these, at a start of Random that they name", sum("--random" in it for it in rows)],
         ["tables", len(tables)],
-        ["cases of the tables", cases],
+        ["cases of the tables", sum(cases.get(it, 0) for it in tables)],
         ["words that run nothing", len(told)],
     ]
-    found = ["## Rows and cases", "", "The program `rows` runs these:", "", *table(["What", "How many"], counted)]
-    for program in sorted(Path(top, "crates").glob("*/stdout")):
-        lines = [it for it in program.read_text("utf-8").splitlines() if re.search(r"as wanted|differ", it)]
-        if lines:
-            found += ["", f"The program `{program.parent.name}` says:", "", *(f"    {it}" for it in lines)]
-    return found
+    of_parts = {it.split()[1]: cases[it] for it in parts if it in cases}
+    return [
+        *("## Rows and cases", "", "The program `rows` runs these:", "", *table(["What", "How many"], counted)),
+        *("", "And the lines of these files, over one or both buffers:", "", *table(["File", "How many"], of_parts.items())),
+    ]
 
 
 def page(top=TOP):

@@ -1,4 +1,4 @@
-"""Answers the lines of crates/part_cases/data/grants/: grants with the bytes of their pages, address spaces and a buffer."""
+"""Answers the lines of crates/rows/data/parts/grants/: grants with the bytes of their pages, address spaces and a buffer."""
 import tomllib
 
 from grants_model import Entry, Grants

@@ -1,20 +1,20 @@
 #!/usr/bin/env python3
-"""Writes the files of crates/part_cases/data/grants/, each line with the answer of tools/grants_model.py, and its lines of the crate's stdout.
+"""Writes the files of crates/rows/data/parts/grants/, each line with the answer of tools/grants_model.py, and their lines of the program's stdout.
 
 tools/test_grants_cases.py tests the model, and that the files are as this script writes them. stories.txt is written
 by hand, with its answers, and only tested.
 """
 import itertools
 import random
+import re
 from pathlib import Path
 
 from case_files import write
 from grants_answers import Model, answer
 from grants_model import is_page
 
-CALLS = ["grant", "give", "take", "drop", "revoke", "narrow", "end", "split", "expire"]
-CRATE = Path(__file__).resolve().parent.parent / "crates" / "part_cases"
-DATA = CRATE / "data" / "grants"
+CRATE = Path(__file__).resolve().parent.parent / "crates" / "rows"
+DATA = CRATE / "data" / "parts" / "grants"
 OUTPUT = CRATE / "stdout"
 
 
@@ -752,16 +752,11 @@ REPLAYED = ("refusals.txt", "stories.txt", "sequences.txt", "many.txt", "spaces.
 
 def wanted_output(texts):
     """What the program prints where no line of the files differs, in place of the lines that stand there of them."""
-    standing = OUTPUT.read_text().splitlines(keepends=True)
-    first = next(i for i, line in enumerate(standing) if line.startswith("grants/"))
-    others = [line for line in standing if not line.startswith("grants/")]
-    output = "".join(others[:first])
+    standing = OUTPUT.read_text()
     for name, text in texts:
-        verbs = [line.split()[0] for line in text.splitlines() if line.split("#")[0].strip()]
-        calls = sum(verb in CALLS for verb in verbs)
-        for buffer in ("searched", "indexed"):
-            output += f"grants/{name}, {buffer} buffer: {calls} calls, {len(verbs) - calls} other lines, 0 differ\n"
-    return output + "".join(others[first:])
+        lines = sum(bool(line.split("#")[0].strip()) for line in text.splitlines())
+        standing = re.sub(rf"(?m)^(grants parts/grants/{name} \w+): .*", rf"\1: {lines} as expected", standing)
+    return standing
 
 
 def files():

@@ -42,7 +42,7 @@ LISTS = [
     Asked(RUN, "run_files", ["real", "cut"],
           "What the processor does: its step, memory and devices, the TLB, and what a station that holds them shows of a state of the machine.",
           ["`tools/processor_model.py`, a processor with a buffer of 64 entries, the nine words, page tables, address space numbers and late copies",
-           "the cases of `crates/part_cases/data/machine/`, worked out by hand, and the rows of `emulated/`"]),
+           "the cases of `crates/rows/data/parts/machine/`, worked out by hand, and the rows of `emulated/`"]),
     Asked(RUN, "run_files", ["followed", "followed_so_far"],
           "For which states of the machine a station stands, in the middle of a unit too, how each step follows them, and what is counted of a unit.",
           ["`tools/unit_course.py`, which searches all courses of a unit for its longest"]),

@@ -2,54 +2,36 @@
 
 use crate::came::Came;
 use crate::files::FolderFiles;
+use crate::index::Lines;
 use crate::outcome::Outcome;
-use crate::words::{command_of, first_three, index_lines, words_of};
+use crate::words::{command_of, first_three, words_of};
 use ds_drive::Files;
 use std::alloc::Global;
 use std::io;
 use std::io::Write;
 
-/// Runs the rows that the index lists, one a line, and writes each line with its outcome. The
-/// status is 0 where the index lists a row and each row is as expected, else 1. What
-/// came in place of it is told on `err`.
-pub fn run_rows<F: Files + Copy + Drop, W: Write, E: Write>(
-    alloc: Global,
-    index: &str,
-    files: F,
-    out: &mut W,
-    err: &mut E,
-) -> io::Result<u8> {
-    let mut place = files;
-    let Ok(bytes) = place.read(alloc, index) else {
-        write!(out, "{index}: {}\n", Outcome::NoFile)?;
-        return Ok(1);
-    };
-    let lines = index_lines(alloc, bytes.as_slice())?;
-    run_lines(alloc, lines.as_slice(), files, out, err)
+/// Rows, one a line: their status and their text are compared with what is expected. At status 0
+/// stations that are stepped and run by hand have to write what a row writes, too.
+#[derive(Drop)]
+pub struct Rows<F> {
+    /// Where the folders of the rows lie.
+    pub files: F,
 }
 
-/// Runs the rows of these lines, and writes each line with its outcome.
-fn run_lines<F: Files + Copy + Drop, W: Write, E: Write>(
-    alloc: Global,
-    lines: &[&str],
-    files: F,
-    out: &mut W,
-    err: &mut E,
-) -> io::Result<u8> {
-    let mut status = 0;
-    for line in lines {
+impl<F: Files + Copy + Drop> Lines for Rows<F> {
+    fn run<W: Write, E: Write>(
+        &self,
+        alloc: Global,
+        line: &str,
+        _out: &mut W,
+        err: &mut E,
+    ) -> io::Result<Outcome> {
         let words = words_of(alloc, line)?;
-        let outcome = run_row(alloc, words.as_slice(), files, err)?;
-        if outcome != Outcome::AsExpected {
-            status = 1;
-        }
-        write!(out, "{line}: {outcome}\n")?;
+        run_row(alloc, words.as_slice(), self.files, err)
     }
-    Ok(status)
 }
 
-/// Runs the row of these words, and compares its outcome with what is expected. At status 0
-/// stations that are stepped and run by hand have to write what it writes, too.
+/// Runs the row of these words, and compares its outcome with what is expected.
 fn run_row<F: Files + Copy + Drop, E: Write>(
     alloc: Global,
     words: &[&str],

@@ -3,49 +3,33 @@
 use crate::came::Came;
 use crate::case::{Case, Expected, cases_of};
 use crate::files::{FolderFiles, Put};
+use crate::index::Lines;
 use crate::outcome::Outcome;
-use crate::words::{command_of, first_three, index_lines, words_of};
+use crate::words::{command_of, first_three, words_of};
 use ds_drive::Files;
 use std::alloc::{AllocError, Global};
 use std::io;
 use std::io::Write;
 
-/// Runs the tables that the index lists, one a line, and writes each line with how many cases are
-/// as expected, and each other case with its outcome. The status is 0 where the index lists a
-/// table, each has a case, and each case is as expected, else 1. What came in place of
-/// it is told on `err`.
-pub fn run_tables<F: Files + Copy + Drop, W: Write, E: Write>(
-    alloc: Global,
-    index: &str,
-    files: F,
-    out: &mut W,
-    err: &mut E,
-) -> io::Result<u8> {
-    let mut place = files;
-    let Ok(bytes) = place.read(alloc, index) else {
-        write!(out, "{index}: {}\n", Outcome::NoFile)?;
-        return Ok(1);
-    };
-    let lines = index_lines(alloc, bytes.as_slice())?;
-    run_lines(alloc, lines.as_slice(), files, out, err)
+/// Tables, one a line, each with how many of its cases are as expected; each other case is written with its
+/// outcome.
+#[derive(Drop)]
+pub struct Tables<F> {
+    /// Where the folders of the tables lie.
+    pub files: F,
 }
 
-/// Runs the tables of these lines, and writes what came of them.
-fn run_lines<F: Files + Copy + Drop, W: Write, E: Write>(
-    alloc: Global,
-    lines: &[&str],
-    files: F,
-    out: &mut W,
-    err: &mut E,
-) -> io::Result<u8> {
-    let mut status = 0;
-    for line in lines {
+impl<F: Files + Copy + Drop> Lines for Tables<F> {
+    fn run<W: Write, E: Write>(
+        &self,
+        alloc: Global,
+        line: &str,
+        out: &mut W,
+        err: &mut E,
+    ) -> io::Result<Outcome> {
         let words = words_of(alloc, line)?;
-        if !run_table(alloc, line, words.as_slice(), files, out, err)? {
-            status = 1;
-        }
+        run_table(alloc, words.as_slice(), self.files, out, err)
     }
-    Ok(status)
 }
 
 /// A table: the folder of its files, the file that differs from case to case, and the command.
@@ -70,19 +54,16 @@ impl<'a> Table<'a> {
     }
 }
 
-/// Runs the table of a line with these words, writes what came of it, and answers whether each case
-/// is as expected.
+/// Runs the table of these words; how its cases came out.
 fn run_table<F: Files + Copy + Drop, W: Write, E: Write>(
     alloc: Global,
-    line: &str,
     words: &[&str],
     files: F,
     out: &mut W,
     err: &mut E,
-) -> io::Result<bool> {
+) -> io::Result<Outcome> {
     let Some((folder, file, cases, words)) = first_three(words) else {
-        write!(out, "{line}: {}\n", Outcome::NoForm)?;
-        return Ok(false);
+        return Ok(Outcome::NoForm);
     };
     let command = command_of(alloc, words)?;
     let table = Table {
@@ -90,22 +71,13 @@ fn run_table<F: Files + Copy + Drop, W: Write, E: Write>(
         file,
         command: command.as_slice(),
     };
-    let cases = match read_cases(alloc, FolderFiles::of(files, folder), cases)? {
-        Ok(cases) => cases,
-        Err(outcome) => {
-            write!(out, "{line}: {outcome}\n")?;
-            return Ok(false);
-        }
-    };
-    let well = run_cases(alloc, files, &table, cases.as_slice(), out, err)?;
-    let count = cases.len();
-    if well {
-        write!(out, "{line}: {count} as expected\n")?;
+    match read_cases(alloc, FolderFiles::of(files, folder), cases)? {
+        Ok(cases) => run_cases(alloc, files, &table, cases.as_slice(), out, err),
+        Err(outcome) => Ok(outcome),
     }
-    Ok(well)
 }
 
-/// The cases of a file, of which there is one at least.
+/// The cases of a file.
 fn read_cases<F: Files + Drop>(
     alloc: Global,
     files: F,
@@ -119,13 +91,13 @@ fn read_cases<F: Files + Drop>(
         return Ok(Err(Outcome::NoForm));
     };
     match cases_of(alloc, text)? {
-        Some(cases) if !cases.is_empty() => Ok(Ok(cases)),
-        _ => Ok(Err(Outcome::NoForm)),
+        Some(cases) => Ok(Ok(cases)),
+        None => Ok(Err(Outcome::NoForm)),
     }
 }
 
-/// Runs the cases of a table, writes the name and outcome of each that is not as expected, and
-/// answers whether each is.
+/// Runs the cases of a table, and writes the name and outcome of each that is not as expected; how they
+/// came out.
 fn run_cases<'a, F: Files + Copy + Drop, W: Write, E: Write>(
     alloc: Global,
     files: F,
@@ -133,16 +105,16 @@ fn run_cases<'a, F: Files + Copy + Drop, W: Write, E: Write>(
     cases: &[Case],
     out: &mut W,
     err: &mut E,
-) -> io::Result<bool> {
-    let mut well = true;
+) -> io::Result<Outcome> {
+    let mut others = 0u64;
     for case in cases {
         let outcome = run_case(alloc, files, table, case, err)?;
         if outcome != Outcome::AsExpected {
-            well = false;
+            others = others.saturating_add(1);
             write!(out, "{}: {outcome}\n", case.name)?;
         }
     }
-    Ok(well)
+    Ok(Outcome::of_cases(cases.len() as u64, others))
 }
 
 /// Runs a case of a table, and compares its outcome with what is expected. At status 0

@@ -1,20 +1,6 @@
-//! The lines of an index, and the words of a line.
+//! The words of a line.
 
 use std::alloc::{AllocError, Global};
-use std::io;
-use std::io::ErrorKind;
-
-/// The lines of an index, of which there is one at least.
-pub fn index_lines<'a>(alloc: Global, index: &'a [u8]) -> io::Result<Vec<&'a str>> {
-    let Ok(text) = std::str::from_utf8(index) else {
-        return Err(io::Error::from(ErrorKind::InvalidData));
-    };
-    let found: Vec<&'a str> = text.lines().collect(alloc)?;
-    if found.is_empty() {
-        return Err(io::Error::from(ErrorKind::InvalidData));
-    }
-    Ok(found)
-}
 
 /// The words of a line, with one space between.
 pub fn words_of<'a>(alloc: Global, line: &'a str) -> Result<Vec<&'a str>, AllocError> {
@@ -35,8 +21,18 @@ pub fn first_three<'a, 'b>(
 pub fn command_of(alloc: Global, words: &[&str]) -> Result<Vec<String>, AllocError> {
     let mut command = Vec::new(alloc);
     command.push(String::from_str(alloc, "dsmon")?)?;
+    push_words(alloc, &mut command, words)?;
+    Ok(command)
+}
+
+/// Adds words to those of a command.
+pub fn push_words(
+    alloc: Global,
+    command: &mut Vec<String>,
+    words: &[&str],
+) -> Result<(), AllocError> {
     for word in words {
         command.push(String::from_str(alloc, word)?)?;
     }
-    Ok(command)
+    Ok(())
 }

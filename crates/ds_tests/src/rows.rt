@@ -1,6 +1,6 @@
 //! Rows and tables whose files stand in memory.
 use ds_drive::{FileFault, Files};
-use ds_rows::{run_rows, run_tables};
+use ds_rows::{Rows, Tables, run_index};
 use std::alloc::Global;
 use std::io;
 
@@ -67,9 +67,9 @@ fn is_told<'a>(
     let mut out: Vec<u8> = Vec::new(alloc);
     let mut err: Vec<u8> = Vec::new(alloc);
     let came = if cases.is_empty() {
-        run_rows(alloc, "index", files, &mut out, &mut err)?
+        run_index(alloc, "index", files, &Rows { files }, &mut out, &mut err)?
     } else {
-        run_tables(alloc, "index", files, &mut out, &mut err)?
+        run_index(alloc, "index", files, &Tables { files }, &mut out, &mut err)?
     };
     Ok(came == status && out.as_slice() == wanted.as_bytes())
 }
@@ -162,6 +162,7 @@ a command that names no process: the status is 2
 a comment that is refused: the status is 0
 a comment that writes something: the first 10 bytes are as expected, and no more
 nothing is said of it: words are missing, or the cases have no form
+a input cases run policy input 20: 4 not as expected
 ";
     let index = "a input cases run policy input 20\n";
     assert!(rt; is_told(rt.alloc(), index, cases, 1, wanted)?);

@@ -1,14 +1,18 @@
-//! Runs the rows, the tables and the words of data/, and tells of each whether it is as expected.
+//! Runs what the indexes of data/ list, and tells of each line whether it is as expected.
+//!
+//!     rows              all: rows, tables, words that run nothing, and the workstation's parts
+//!     rows N            N random programs on the processor alone
+//!     rows SOURCE N     N instructions of one program ahead, for `bench/run --core`
 #![tactic(auto)]
 
-mod told;
+mod parts;
 
 use ds_drive::SystemFiles;
-use ds_rows::{run_rows, run_tables};
+use ds_rows::{Rows, Tables, Told, run_index};
+use parts::{Parts, run_ahead, run_random};
 use std::alloc::{AllocError, Global};
-use std::io;
 use std::process::ExitCode;
-use told::run_told;
+use std::{env, io};
 
 /// The bytes of a block that is larger than a station's memory, and which the C library takes from
 /// the system apart.
@@ -24,10 +28,32 @@ fn keep_freed_memory(alloc: Global) -> Result<(), AllocError> {
 
 fn main(rt: HostRuntime) -> io::Result<ExitCode> {
     keep_freed_memory(rt.alloc())?;
-    let files = SystemFiles::new(&rt);
+    let words: Vec<String> = env::args(&rt)?.collect(rt.alloc())?;
+    let status = run(&rt, words.as_slice())?;
+    Ok(ExitCode::from(status))
+}
+
+/// Runs what the words of the command line ask for; 0 where all is as expected, else 1.
+fn run(rt: &HostRuntime, words: &[String]) -> io::Result<u8> {
+    let (alloc, out) = (rt.alloc(), &mut rt.stdout());
+    let outcome = match words {
+        [_, source, count] => {
+            let count = count.parse().unwrap_or(0);
+            run_ahead(alloc, source.as_str(), count, SystemFiles::new(rt), out)?
+        }
+        [_, programs] => run_random(alloc, programs.parse().unwrap_or(0), out)?,
+        _ => return run_all(rt),
+    };
+    Ok(if outcome.is_well() { 0 } else { 1 })
+}
+
+/// Runs all that is listed.
+fn run_all(rt: &HostRuntime) -> io::Result<u8> {
+    let (alloc, files) = (rt.alloc(), SystemFiles::new(rt));
     let (out, err) = (&mut rt.stdout(), &mut rt.stderr());
-    let rows = run_rows(rt.alloc(), "rows", files, out, err)?;
-    let tables = run_tables(rt.alloc(), "tables", files, out, err)?;
-    let told = run_told(rt.alloc(), "told", files, out)?;
-    Ok(ExitCode::from(rows.max(tables).max(told)))
+    let rows = run_index(alloc, "rows", files, &Rows { files }, out, err)?;
+    let tables = run_index(alloc, "tables", files, &Tables { files }, out, err)?;
+    let told = run_index(alloc, "told", files, &Told { files }, out, err)?;
+    let parts = run_index(alloc, "parts/index", files, &Parts { files }, out, err)?;
+    Ok(rows.max(tables).max(told).max(parts))
 }
