@@ -5,7 +5,7 @@
     tools/figures.py --check         says where the page differs from what is counted now; the status is 1 then
     tools/figures.py --seconds FILE  takes the processor seconds of a file of `tools/gate_times.py --keep` over into tools/figures.json, then writes the page
 
-What is counted: wrong bodies by crate, rows, tables and their cases, words that run nothing, and the lines on parts. What is measured lies in
+What is counted: wrong bodies by crate, rows, tables and their cases, words that run nothing, stepped runs, and the lines on parts. What is measured lies in
 tools/figures.json: `runs`, whole commands with their minutes, which are written there by hand; `seconds`, by crate and kind, with the day.
 """
 import json
@@ -76,7 +76,7 @@ def words_of(top, path):
 def rows_of(top):
     """The part on rows, tables and cases."""
     rows, tables = words_of(top, "crates/rows/data/rows"), words_of(top, "crates/rows/data/tables")
-    told, parts = [words_of(top, f"crates/rows/data/{it}") for it in ("told", "parts/index")]
+    told, steps, parts = [words_of(top, f"crates/rows/data/{it}") for it in ("told", "steps/index", "parts/index")]
     outcomes = dict(it.rsplit(": ", 1) for it in words_of(top, "crates/rows/stdout") if ": " in it)
     cases = {line: int(outcomes.get(line, "0").split()[0]) for line in [*tables, *parts] if outcomes.get(line) != "as expected"}
     counted = [
@@ -85,6 +85,7 @@ def rows_of(top):
         ["tables", len(tables)],
         ["cases of the tables", sum(cases.get(it, 0) for it in tables)],
         ["words that run nothing", len(told)],
+        ["stepped runs", len(steps)],
     ]
     of_parts = {it.split()[1]: cases[it] for it in parts if it in cases}
     return [

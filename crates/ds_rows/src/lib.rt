@@ -1,5 +1,5 @@
 //! Runs of `dsmon` as data: rows, tables of cases, and words that run nothing, each with its expected
-//! outcome; and stations that are made of a row's files, and run at once and by steps.
+//! outcome; and stations that are made of a row's files, and run at once and by steps, which may be told.
 #![tactic(auto)]
 
 mod came;
@@ -8,6 +8,7 @@ mod files;
 mod index;
 mod outcome;
 mod row;
+mod stepped;
 mod steps;
 mod table;
 mod told;
@@ -16,6 +17,7 @@ mod words;
 pub use index::{Lines, run_index};
 pub use outcome::Outcome;
 pub use row::Rows;
+pub use stepped::Stepped;
 pub use table::Tables;
 pub use told::Told;
 pub use words::words_of;

@@ -9,7 +9,7 @@ use ds_tlb::{Indexed, Lookaside, Tlb};
 use std::alloc::Global;
 
 /// The most steps that a station is stepped.
-const MOST_STEPS: u32 = 1_000_000;
+pub const MOST_STEPS: u32 = 1_000_000;
 
 /// Whether stations that are made as the words ask for it write this text: over either buffer, at
 /// once and by steps. Where the words ask for no run of files, there is none to compare, nor where
@@ -46,7 +46,7 @@ fn request_writes<'a, F: Files + Drop>(
 
 /// What a station is made of.
 #[derive(Drop)]
-struct Parts {
+pub struct Parts {
     policy: Policy,
     images: Vec<Image>,
     input: Vec<u8>,
@@ -54,7 +54,11 @@ struct Parts {
 
 impl Parts {
     /// The parts that the files of a request hold.
-    fn read<'a, F: Files>(alloc: Global, request: &Request<'a>, files: &mut F) -> Option<Parts> {
+    pub fn read<'a, F: Files>(
+        alloc: Global,
+        request: &Request<'a>,
+        files: &mut F,
+    ) -> Option<Parts> {
         let text = files.read(alloc, request.policy).ok()?;
         let policy = Policy::read(alloc, text.as_slice()).ok()?;
         let input = files.read(alloc, request.input).ok()?;
@@ -67,7 +71,7 @@ impl Parts {
     }
 
     /// A station at the beginning of a run.
-    fn station<L: Lookaside>(&self, alloc: Global, random: u8) -> Option<Station<L>>
+    pub fn station<L: Lookaside>(&self, alloc: Global, random: u8) -> Option<Station<L>>
         requires slots { L.SLOTS ≡ 64 }
         requires wired { L.WIRED ≡ 8 }
     {

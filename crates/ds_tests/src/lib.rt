@@ -1,7 +1,6 @@
 //! Tests over public calls where a line of data is not enough: single calls whose answer nothing
-//! writes, refused memory, writers that fail, files and streams in memory, and stations that are
-//! looked at between their steps. They stand apart from the crates that they test, so that each of
-//! those is proved once. What is a table is data of `rows`.
+//! writes, refused memory, writers that fail, and files and streams in memory. They stand apart from
+//! the crates that they test, so that each of those is proved once. What is a table is data of `rows`.
 #![tactic(auto)]
 
 #[cfg(test)]

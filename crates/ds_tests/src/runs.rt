@@ -1,10 +1,9 @@
-//! Runs that no file can hold: sources that are missing, writers that fail, memory that is refused,
-//! and stations that are looked at between their steps. `crates/rows` has the others.
+//! Runs that no file can hold: sources that are missing, writers that fail, and memory that is
+//! refused. `crates/rows` has the others.
 
 mod limits;
 mod memory;
 mod refusals;
-mod steps;
 mod writers;
 
 use ds_station::run_files;

@@ -1,6 +1,7 @@
 //! Runs what the indexes of data/ list, and tells of each line whether it is as expected.
 //!
-//!     rows              all: rows, tables, words that run nothing, and the workstation's parts
+//!     rows              all: rows, tables, words that run nothing, stepped runs, and the
+//!                       workstation's parts
 //!     rows N            N random programs on the processor alone
 //!     rows SOURCE N     N instructions of one program ahead, for `bench/run --core`
 #![tactic(auto)]
@@ -8,7 +9,7 @@
 mod parts;
 
 use ds_drive::SystemFiles;
-use ds_rows::{Rows, Tables, Told, run_index};
+use ds_rows::{Rows, Stepped, Tables, Told, run_index};
 use parts::{Parts, run_ahead, run_random};
 use std::alloc::{AllocError, Global};
 use std::process::ExitCode;
@@ -54,6 +55,7 @@ fn run_all(rt: &HostRuntime) -> io::Result<u8> {
     let rows = run_index(alloc, "rows", files, &Rows { files }, out, err)?;
     let tables = run_index(alloc, "tables", files, &Tables { files }, out, err)?;
     let told = run_index(alloc, "told", files, &Told { files }, out, err)?;
+    let steps = run_index(alloc, "steps/index", files, &Stepped { files }, out, err)?;
     let parts = run_index(alloc, "parts/index", files, &Parts { files }, out, err)?;
-    Ok(rows.max(tables).max(told).max(parts))
+    Ok(rows.max(tables).max(told).max(steps).max(parts))
 }
