@@ -78,10 +78,28 @@ impl Case {
                     self.expected = Some(Expected::Refused(told));
                     Ok(is_good)
                 }
-                None => push_line(&mut self.text, line),
+                None => push_lines(&mut self.text, line),
             },
         }
     }
+}
+
+/// Adds a line to a text, or one behind `\\*N` and a blank N times.
+fn push_lines(text: &mut Vec<u8>, line: &str) -> Result<bool, AllocError> {
+    let Some(rest) = line.strip_prefix("\\*") else {
+        return push_line(text, line);
+    };
+    let Some((count, line)) = rest.split_once(' ') else {
+        return Ok(false);
+    };
+    let Ok(count) = count.parse::<u32>() else {
+        return Ok(false);
+    };
+    let mut taken = true;
+    for _ in 0..count {
+        taken = taken && push_line(text, line)?;
+    }
+    Ok(taken)
 }
 
 /// How far the reading of an escape has come.

@@ -1,10 +1,6 @@
 //! What a policy and an input say, where no row shows it.
-use ds_policy::{Events, EventsFault, Policy, PolicyRule, address_of};
+use ds_policy::{Policy, PolicyRule, address_of};
 use std::alloc::Global;
-
-/// A process, its code, a page of data, and a rule over the code.
-const POLICY: &str =
-    "version = 1\nframes = 16\n[[process]]\nstart = 0x00400000\nline = 0\n[[page]]\nname = \"code\"\nsource = \"one.s\"\npart = 0\n[[page]]\nname = \"data\"\n[[rule]]\nprocess = 1\naddress = 0x00400000\nright = \"read\"\npage = \"code\"\n";
 
 /// Words, each with the address that it is, in decimal digits, or with nothing after the equals
 /// sign.
@@ -41,36 +37,6 @@ fn are_addresses() -> bool {
 #[test]
 fn an_address_is_eight_hexadecimal_digits(rt: HostRuntime) {
     assert!(rt; are_addresses());
-}
-
-/// Whether an input of a policy is refused in its line 100,001.
-fn is_refused(alloc: Global, text: &[u8], policy: &Policy) -> bool {
-    match Events::read(alloc, text, policy) {
-        Ok(_) => false,
-        Err(fault) => fault == EventsFault::InputFault(100_001),
-    }
-}
-
-/// Whether an input of 100,000 empty lines, and blanks in the last, is refused there.
-fn is_read(alloc: Global, policy: &Policy) -> bool {
-    let mut text: Vec<u8> = Vec::new(alloc);
-    if text.resize(100_000, b'\n').is_err() || text.resize(200_000, b' ').is_err() {
-        return false;
-    }
-    is_refused(alloc, &text, policy)
-}
-
-/// Whether the long text is read up to its last line.
-fn reads_to_the_end(alloc: Global) -> bool {
-    match Policy::read(alloc, POLICY.as_bytes()) {
-        Ok(policy) => is_read(alloc, &policy),
-        Err(_) => false,
-    }
-}
-
-#[test]
-fn a_long_text_is_read(rt: HostRuntime) {
-    assert!(rt; reads_to_the_end(rt.alloc()));
 }
 
 /// Two processes with a page. Rule 1 ends at time 5, rule 3 at time 3, and the others do not end.

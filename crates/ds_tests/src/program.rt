@@ -260,27 +260,6 @@ fn a_source_is_a_file_and_inside_its_folder_no_link_leads_to_it(
     Ok(())
 }
 
-/// Whether a run whose source has so many bytes that say nothing is refused so.
-fn is_refused(alloc: Global, count: usize, told: &[u8]) -> Result<bool, AllocError> {
-    let mut text: Vec<u8> = Vec::new(alloc);
-    text.resize(count, b'x')?;
-    let files = [
-        ("in.txt", b"".as_slice()),
-        ("one.s", text.as_slice()),
-        ("p.toml", POLICY.as_bytes()),
-    ];
-    let answer = answer_to(alloc, RUN, &files)?;
-    Ok(answer.status == 2 && answer.err.as_slice() == told)
-}
-
-#[test]
-fn a_source_has_at_most_16777216_bytes(rt: HostRuntime) -> Result<(), AllocError> {
-    let read = is_refused(rt.alloc(), 16_777_216, b"dsmon: 3 Syntax one.s 1\n")?;
-    let unread = is_refused(rt.alloc(), 16_777_217, b"dsmon: 26 Unreadable one.s\n")?;
-    assert!(rt; read && unread);
-    Ok(())
-}
-
 /// The beginning of what is told of an output that is closed, and of want of memory.
 const WRITE_FAULT: &[u8] = b"dsmon: 23 WriteFault\n";
 

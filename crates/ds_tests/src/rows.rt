@@ -169,10 +169,13 @@ a input cases run policy input 20: 4 not as expected
     Ok(())
 }
 
-/// Cases that have no form: lines outside a case, wrong escapes, and a text behind what is wanted.
-const FORMLESS: [&str; 7] = [
+/// Cases that have no form: lines outside a case, wrong escapes, wrong counts, and a text behind what is
+/// wanted.
+const FORMLESS: [&str; 9] = [
     "text\n",
     "== a\n\\y\n-- ok\n",
+    "== a\n\\*2\n-- ok\n",
+    "== a\n\\*x nop\n-- ok\n",
     "== a\n\\x\n-- ok\n",
     "== a\n\\x4\n-- ok\n",
     "== a\n\\xg0\n-- ok\n",

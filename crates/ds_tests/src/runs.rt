@@ -1,7 +1,6 @@
 //! Runs that no file can hold: sources that are missing, writers that fail, and memory that is
 //! refused. `crates/rows` has the others.
 
-mod limits;
 mod memory;
 mod refusals;
 mod writers;
