@@ -124,7 +124,7 @@ class Model(AddressSpaces, LateCopies, Grants):
 WORDS = {  # how the words of a line are read: a number in (d)ecimal or he(x)adecimal digits, (r)ight or other word, (g)ive, (b)y whom
     "start": "ddd", "grant": "dxdrgd", "give": "dxdxd", "take": "ddx", "drop": "dxb", "revoke": "dxd", "narrow": "dx",
     "end": "d", "split": "dx", "write": "dd", "enter": "dd", "fill": "dx", "entry": "dx", "addresses": "d", "byte": "d",
-    "frame": "d", "space": "d", "translation": "dx", "expire": "d", "next": "", "due": "dd", "decide": "drrx"}
+    "frame": "d", "space": "d", "translation": "dx", "next": "", "due": "dd", "decide": "drrx"}
 READ = {"d": int, "x": lambda word: int(word, 16), "r": str, "g": {"keep": False, "give": True}.get,
         "b": {"own": False, "command": True}.get}
 
@@ -145,6 +145,9 @@ def answer(model, asked):
     verb, _, words = asked.partition(" ")
     if verb == "begin":
         return begun(words), "ok"
+    if verb == "expire":
+        time, high, *_ = (*words.split(), "0")
+        return model, str(model.expire(int(time) + (int(high) << 32)) or "ok")
     values = [READ[kind](word) for kind, word in zip(WORDS[verb], words.split(), strict=True)]
     if verb == "start":
         return Model(*values), "ok"

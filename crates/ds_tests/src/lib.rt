@@ -18,8 +18,6 @@ mod instructions;
 #[cfg(test)]
 mod limited;
 #[cfg(test)]
-mod listing;
-#[cfg(test)]
 mod log;
 #[cfg(test)]
 mod pages;

@@ -3,8 +3,7 @@ ghost use Rattle.std.specs.Prelude.{◌≡◌, ◌<◌, ◌≤◌, ◌%◌, ◌^
 ghost use Rattle.ds_policy.specs.Pages.{entry_at};
 ghost use Rattle.ds_policy.specs.Grants.{has_right};
 
-use crate::policy::ENDING;
-use ds_policy::{EntryPlace, Grant, Policy, Right, Table, forbidden_by};
+use ds_policy::{EntryPlace, Grant, Right, Table, forbidden_by};
 use std::alloc::Global;
 
 /// Whether a process may do nothing at an address.
@@ -99,39 +98,4 @@ fn forbids_anew(alloc: Global) -> bool {
 #[test]
 fn nothing_descends_from_an_entry_that_was_forbidden(rt: HostRuntime) {
     assert!(rt; forbids_anew(rt.alloc()));
-}
-
-/// Whether each right of a table that has an end has ended at a late time, and no other has.
-fn have_ended_late(table: &mut Table) -> bool {
-    table.expire(0x1_0000_0000);
-    if table.processes() != 2 {
-        return false;
-    }
-    let kept = Grant {
-        rule: 2,
-        give: false,
-        ..granted(0, None)
-    };
-    let first = table.entry(1, 0x1000) == Some(forbidden_by(1));
-    let second = table.entry(2, 0x1000) == Some(forbidden_by(3));
-    let others = table.entry(1, 0x2000) == Some(kept)
-        && table.entry(2, 0x3000) == Some(forbidden_by(4));
-    first && second && others && table.next_end().is_none()
-}
-
-/// Whether the rights of a policy have ended so.
-fn end_late(alloc: Global) -> bool {
-    let Ok(policy) = Policy::read(alloc, ENDING.as_bytes()) else {
-        return false;
-    };
-    match Table::new(alloc, &policy) {
-        Ok(mut table) => have_ended_late(&mut table),
-        Err(_) => false,
-    }
-}
-
-/// Times have more bits than ends.
-#[test]
-fn all_that_ends_has_ended_at_a_late_time(rt: HostRuntime) {
-    assert!(rt; end_late(rt.alloc()));
 }

@@ -83,7 +83,7 @@ impl<L: Lookaside> Stage<L> {
                 spaces::answer(&mut parts.spaces, buffer, step, numbers)
             }
             Verb::Arithmetic(function) => arithmetic::answer(function, numbers),
-            Verb::Words(question) => words::answer(question, numbers),
+            Verb::Words(question) => words::answer(alloc, question, numbers),
             Verb::Program(_) | Verb::System(_) | Verb::Bus(_) | Verb::Buffer(_) | Verb::State(_) =>
                 { of_machine(&mut parts.machine, asked) }
             _ => of_grants(alloc, replay, asked),

@@ -161,7 +161,13 @@ impl<L: Lookaside> Replay<L> {
                 Ok(())
             }
             Call::Expire => {
-                grants.expire(u64::from(a), memory, tables, spaces, buffer);
+                grants.expire(
+                    u64::from(b) << 32 | u64::from(a),
+                    memory,
+                    tables,
+                    spaces,
+                    buffer,
+                );
                 Ok(())
             }
             _ => return None,

@@ -62,7 +62,7 @@ pub enum Step {
 ///     narrow PROCESS ADDRESS
 ///     end PROCESS
 ///     split PROCESS ADDRESS
-///     expire TIME
+///     expire TIME                     or TIME HIGH: so many times 2^32 later
 pub static GRANTS: [Row<Verb>; 23] = [
     ("start", 3, 3, Verb::Start),
     ("begin", 0, 0, Verb::Begin),
@@ -86,5 +86,5 @@ pub static GRANTS: [Row<Verb>; 23] = [
     ("narrow", 2, 2, Verb::Call(Call::Narrow)),
     ("end", 1, 1, Verb::Call(Call::End)),
     ("split", 2, 2, Verb::Call(Call::Split)),
-    ("expire", 1, 1, Verb::Call(Call::Expire)),
+    ("expire", 1, 2, Verb::Call(Call::Expire)),
 ];
