@@ -37,7 +37,7 @@ class Tests(unittest.TestCase):
             for title, text, answer in cases(f"{name}.cases"):
                 count += 1
                 self.assertEqual(input_refusal(text, ["code", "data"]) or "ok", answer, f"{name}: {title}")
-        self.assertEqual(count, 299)
+        self.assertEqual(count, 302)
 
     def test_the_files_are_as_they_are_written(self):
         self.assertEqual([], different(files()))

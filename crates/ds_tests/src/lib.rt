@@ -20,10 +20,6 @@ mod limited;
 #[cfg(test)]
 mod log;
 #[cfg(test)]
-mod pages;
-#[cfg(test)]
-mod policy;
-#[cfg(test)]
 mod processes;
 #[cfg(test)]
 mod program;

@@ -112,28 +112,3 @@ fn a_process_goes_to_the_end_from_anywhere(rt: HostRuntime) {
     ready.remove(3);
     assert!(rt; from_within && from_the_front && ready.first() == Some(2));
 }
-
-/// Whether processes 1 to 100 have the next turns, one after the other.
-fn take_turns(ready: &mut Queue) -> bool {
-    let mut right = true;
-    for process in 1..=100 {
-        right = right && ready.first() == Some(process);
-        ready.rotate();
-    }
-    right
-}
-
-#[test]
-fn a_hundred_processes_take_turns(rt: HostRuntime) {
-    let mut ready = Queue::new();
-    for process in 1..101 {
-        ready.push(process);
-    }
-    let in_turn = take_turns(&mut ready) && ready.first() == Some(1);
-    for process in 1..=99 {
-        ready.remove(process);
-    }
-    let last = ready.first() == Some(100);
-    ready.remove(100);
-    assert!(rt; in_turn && last && ready.first().is_none());
-}

@@ -2,7 +2,6 @@
 use crate::limited::{End, Limited};
 use ds_log::send_report;
 use std::alloc::Global;
-use std::test::*;
 
 /// A denial that was logged.
 const LOG: &[u8] = b"0 1 00400000 load 00000000 r0 2\n";
@@ -12,23 +11,6 @@ const REPORT: &str =
 
 fn consoles() -> [&'static [u8]; 4] {
     [b"A", b"", b"\n2", b"twelve bytes"]
-}
-
-#[test]
-fn a_report_is_the_consoles_and_the_log_and_the_time(rt: HostRuntime) -> Result<(), Fail> {
-    let mut out = b"before\n".to_vec(rt.alloc())?;
-    let sent = send_report(&consoles(), 1, LOG, 10, &mut out).is_ok();
-    let report = out.as_slice().strip_prefix(b"before\n".as_slice());
-    assert!(rt; sent && report == Some(REPORT.as_bytes()));
-    Ok(())
-}
-
-#[test]
-fn an_idle_station_is_reported_with_zeros(rt: HostRuntime) {
-    let mut out = Vec::new(rt.alloc());
-    let sent = send_report(&[b"", b"", b"", b""], 0, b"", 0, &mut out).is_ok();
-    let wanted = "console 0 0\n\nconsole 1 0\n\nconsole 2 0\n\nconsole 3 0\n\nlog 0\ntime 0\n";
-    assert!(rt; sent && out.as_slice() == wanted.as_bytes());
 }
 
 /// Whether a writer that takes so many bytes at once, and so many in all, holds that much of the

@@ -1,5 +1,5 @@
-//! Runs that no file can hold: sources that are missing, writers that fail, and memory that is
-//! refused. `crates/rows` has the others.
+//! Runs that no file can hold: sources that are missing, writers that fail, memory that is refused.
+//! `crates/rows` has the others.
 
 mod memory;
 mod refusals;
