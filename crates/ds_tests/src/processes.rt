@@ -1,66 +1,13 @@
-//! Calls and processes of the station's worked examples.
+//! A process at its start, and the queue of those that are ready.
 ghost use Rattle.std.specs.Prelude.{◌<◌, ◌≤◌};
 
-use ds_procs::{Call, Process, Queue, Standing};
-
-// A process at 0x00400000 that asks by these registers 2 and 4.
-fn asks(number: u32, argument: u32) -> Process {
-    let mut process = Process::new(0x0040_0000);
-    process.registers[2] = number;
-    process.registers[4] = argument;
-    process
-}
+use ds_procs::{Process, Queue, Standing};
 
 #[test]
 fn a_process_starts_ready_with_all_registers_zero(rt: HostRuntime) {
     let process = Process::new(0x0040_0000);
     let zero = process.registers == [0; 32] && process.hi == 0 && process.lo == 0;
     assert!(rt; zero && process.pc == 0x0040_0000 && process.state == Standing::Ready);
-}
-
-/// The calls of processes that ask by these registers 2 and 4.
-const CALLS: [(u32, u32, Call); 5] = [
-    (0, 0x41, Call::Exit),
-    (1, 0x41, Call::Put { byte: 0x41 }),
-    (1, 0x1234_5678, Call::Put { byte: 0x78 }),
-    (10, 0, Call::Unknown),
-    (0xFFFF_FFFF, 0, Call::Unknown),
-];
-
-#[test]
-fn a_call_is_read_off_the_registers(rt: HostRuntime) {
-    let mut right = true;
-    for (number, argument, call) in CALLS {
-        right = right && Call::of(&asks(number, argument)) == call;
-    }
-    assert!(rt; right);
-}
-
-#[test]
-fn calls_about_grants_have_up_to_four_arguments(rt: HostRuntime) {
-    let mut process = asks(6, 0x0041_0000);
-    process.registers[5] = 2;
-    process.registers[6] = 0x0080_0000;
-    process.registers[7] = 3;
-    let give = Call::Give {
-        address: 0x0041_0000,
-        receiver: 2,
-        to: 0x0080_0000,
-        mode: 3,
-    };
-    let drop = Call::Drop {
-        address: 0x0041_0000,
-    };
-    let gives = Call::of(&process) == give;
-    process.registers[2] = 8;
-    let drops = Call::of(&process) == drop;
-    let mut process = asks(7, 2);
-    process.registers[5] = 0x0080_0000;
-    let take = Call::Take {
-        process: 2,
-        address: 0x0080_0000,
-    };
-    assert!(rt; gives && drops && Call::of(&process) == take);
 }
 
 /// Who runs in the next turns: the first of the queue before each of four rotations.
