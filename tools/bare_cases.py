@@ -3,16 +3,15 @@
 
 A program has the nine words at 80000000, over a page table of its own with pages of each kind, and a handler at 80000080 that counts, takes what
 the devices ask with, and goes on after whatever raised the exception. Then come drawn instructions in mapped pages, in user mode or in
-kernel mode: sums, accesses of memory and devices by all segments, calls, branches, and those of the coprocessor. tools/test_bare_cases.py
-tests that the files are as this script writes them, and that each exception is met.
+kernel mode: sums, accesses of memory and devices by all segments, calls, branches, and those of the coprocessor.
 """
 import random
-from pathlib import Path
+import sys
 
+import case_files
 from bare_model import told
-from case_files import write
 
-FOLDER = Path(__file__).resolve().parent.parent / "crates" / "rows" / "data" / "bare"
+FOLDER = case_files.DATA / "bare"
 CASES, MOST, START = 16, 500, 40
 WORDS = f"bare one.s {MOST} --random {START} --keys drawn.input".split()
 KINDS = ("exceptions", "tlb", "devices")
@@ -150,22 +149,22 @@ def chosen(kind):
     return [*WORDS, *f"--from 100 --only {kind} --matches --counts --memory 00000080:12 --memory 0x601040:4".split()]
 
 
-def cases(seeds=range(1, CASES + 1), words=WORDS):
-    """Each program, with its text."""
+def table(seeds, words):
+    """Programs, each with its text."""
+    made = "# Programs that were drawn. Written by tools/bare_cases.py.\n\n"
     for k in seeds:
         text = source(random.Random(k))
-        yield k, text, told({"one.s": text, "drawn.input": keys()}.get, words).decode()
-
-
-def table(seeds, words):
-    cases_text = "".join(f"== program {k}\n{text}--\n{wanted}" for k, text, wanted in cases(seeds, words))
-    return "# Programs that were drawn. Written by tools/bare_cases.py.\n\n" + cases_text
+        made += f"== program {k}\n{text}--\n{told({'one.s': text, 'drawn.input': keys()}.get, words).decode()}"
+    return made
 
 
 def files():
-    by_kind = {FOLDER / f"drawn_{kind}.cases": table(SEEDS[kind], chosen(kind)) for kind in KINDS}
-    return {FOLDER / "drawn.input": keys(), FOLDER / "drawn.cases": table(range(1, CASES + 1), WORDS), **by_kind}
+    """The input, the tables, and the index with their lines."""
+    made = {"drawn": (range(1, CASES + 1), WORDS), **{f"drawn_{kind}": (SEEDS[kind], chosen(kind)) for kind in KINDS}}
+    yield FOLDER / "drawn.input", keys()
+    yield from ((FOLDER / f"{name}.cases", table(*it)) for name, it in made.items())
+    yield case_files.DATA / "tables", case_files.with_lines(case_files.DATA / "tables", "bare one.s drawn", [f"bare one.s {name}.cases {' '.join(words)}" for name, (_, words) in made.items()])
 
 
 if __name__ == "__main__":
-    write(files())
+    sys.exit(case_files.main(files))

@@ -87,15 +87,14 @@ class Bus:
             raise BusError
         return 0
 
-    def store(self, place, size, value, count=None, first=None):
-        """A store; of a part of a word so many of its low bytes, from a place on."""
+    def store(self, place, data, is_word):
+        """A store of bytes. A register takes a whole word alone."""
         if self.is_memory(place):
-            first, count = (place, size) if count is None else (first, count)
-            self.memory[first:first + count] = (value & (1 << 8 * count) - 1).to_bytes(count, "little")
-        elif size != 4:
+            self.memory[place:place + len(data)] = data
+        elif not is_word:
             raise BusError
         else:
-            self.store_register(place, value)
+            self.store_register(place, int.from_bytes(data, "little"))
 
     def store_register(self, place, value):
         match place:

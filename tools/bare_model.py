@@ -2,27 +2,28 @@
 """What `dsmon bare` writes, by a plain model, and whether the rows of bare runs have just that.
 
     tools/bare_model.py FOLDER WORDS..   prints what the words after `dsmon` ask for, with names looked up from FOLDER
-    tools/bare_model.py --check          names each row of crates/rows/data whose words begin with `bare` and whose text differs
-    tools/bare_model.py --write          writes the text of each of them anew
+    tools/bare_model.py --check          names the text of each row of crates/rows/data whose words begin with `bare`, where it differs
+    tools/bare_model.py --write          writes each of them anew
 
 It is written after docs/bare.md, docs/machine.md ("Memory and devices") and Kane and Heinrich, chapters 4 and 5, and shares nothing with the
 program. The sums, branches and texts of a user's instructions are those of tools/hostile_model.py and tools/trace_model.py.
 """
 import sys
-from pathlib import Path
 from types import SimpleNamespace
 from typing import NamedTuple
 
+import case_files
 import trace_model
 from bare_devices import Bus, BusError
-from hostile_model import LOADS, SIZES, STORES, Hostile, decode, signed
-from trace_model import BRANCHES, COMMON, DATA, by_names, decode_all, files_in, image
+from case_files import files_in
+from hostile_model import LOADS, SIZES, STORES, Hostile, decode, merged, signed, stored
+from trace_model import BRANCHES, COMMON, SYSTEM_WORDS, asked, by_names, decode_all, image
 from turns_model import MASK, Denied
 
 SLOTS, WIRED, FIRST = 64, 8, 0x8040_0000  # Random names slots from the first that is not wired
 REFILL, GENERAL, VECTOR_WORDS, FINISH = 0x8000_0000, 0x8000_0080, 32, 0x4D
 EXCEPTIONS = "Int Mod TLBL TLBS AdEL AdES IBE DBE Sys Bp RI CpU Ov".split()
-SYSTEM = {0x4200_0001: "tlbr", 0x4200_0002: "tlbwi", 0x4200_0006: "tlbwr", 0x4200_0008: "tlbp", 0x4200_0010: "rfe"}
+SYSTEM = {word: name for name, word in SYSTEM_WORDS.items()}
 NAMES = {0: "Index", 2: "EntryLo", 4: "Context", 8: "BadVAddr", 10: "EntryHi", 12: "Status", 13: "Cause", 14: "EPC"}
 WRITABLE = {0: 0x8000_3F00, 2: 0xFFFF_FF00, 4: 0xFFE0_0000, 10: 0xFFFF_FFC0, 12: 0xF003_FF3F, 13: 0x0000_0300}  # the bits of a register that `mtc0` writes
 IDENTITY = 0x230
@@ -60,29 +61,7 @@ def exception_text(code):
     return f"{code} {EXCEPTIONS[code] if code < len(EXCEPTIONS) else 'reserved'}"
 
 
-# The system coprocessor's instructions, as sources and words have them.
-
-def words_of(text):
-    """The image of a source. The coprocessor's instructions, which no user has, stand in it as words."""
-    return image("\n".join(as_word(line) for line in text.splitlines()))
-
-
-def as_word(line):
-    """A line of a source whose statement is a word where it is one of the coprocessor's."""
-    label, mark, said = line.split("#")[0].rpartition(":")
-    name, *operands = said.replace(",", " ").split() or [""]
-    word = next((word for word, it in SYSTEM.items() if it == name), None)
-    if name in ("mfc0", "mtc0"):
-        to, of = (register_number(it) for it in operands)
-        word = 0x4000_0000 | (0x80_0000 if name == "mtc0" else 0) | to << 16 | of << 11
-    return line if word is None else f"{label}{mark} .word 0x{word:X}"
-
-
-def register_number(word):
-    """The number of a register by its word in a source."""
-    (_, number), = trace_model.assemble(f"jr {word}", 0).values()
-    return number
-
+# Words and their texts.
 
 def decoded(word):
     """The name of a word's instruction with its operands; a coprocessor's without a name of its own is `cop` with its number."""
@@ -195,22 +174,16 @@ class Machine:
 
     def load(self, name, address, t):
         place = self.place(address, SIZES.get(name, 1))
-        size = 1 if name in ("lb", "lbu") else 2 if name in ("lh", "lhu") else 4
+        size = SIZES.get(name, 1)
         if name in ("lwl", "lwr"):
-            whole, b, old = self.bus.load(place, "part"), place % 4, self.r[t]
-            return whole << 24 - 8 * b & MASK | old % (1 << 24 - 8 * b) if name == "lwl" else old >> 32 - 8 * b << 32 - 8 * b | whole >> 8 * b
+            return merged(name, self.bus.load(place, "part"), place % 4, self.r[t]) & MASK
         value = self.bus.load(place, size)
         return signed(value, 8 * size) & MASK if name in ("lb", "lh") else value
 
     def store(self, name, address, value):
         place = self.place(address, SIZES.get(name, 1), True)
-        b = place % 4
-        if name == "swl":
-            self.bus.store(place, "part", value >> 24 - 8 * b, b + 1, place - b)
-        elif name == "swr":
-            self.bus.store(place, "part", value, 4 - b, place)
-        else:
-            self.bus.store(place, {"sb": 1, "sh": 2}.get(name, 4), value)
+        data, before = stored(name, value, place % 4)
+        self.bus.store(place - before, data, name == "sw")
 
     # An instruction.
 
@@ -470,38 +443,19 @@ def fields_text(name, w):
 
 def told(read, words):
     """What `dsmon` writes for these words, the first of which is `bare`, with a function from a file's name to its text."""
-    _, source, most, *flags = [part for word in words for part in word.split("=")]
-    plain = ("--quiet", "--matches", "--counts", "--names")
-    is_quiet, matches, counts, names = (it in flags for it in plain)
-    flags = [it for it in flags if it not in plain]
-    given = dict(zip(flags[::2], flags[1::2]))
-    memory = [it.split(":") for name, it in zip(flags[::2], flags[1::2]) if name == "--memory"]
-    view = View(is_quiet, int(given.get("--from", 0)), int(given["--to"]) if "--to" in given else None, given.get("--only"), matches, counts, tuple((int(address, 16), int(count)) for address, count in memory), names)
-    lines = [line.split(" ") for line in read(given["--keys"]).splitlines()] if "--keys" in given else []
+    (_, source, most), flags = asked(words)
+    number = lambda flag, other: int(flags[flag][-1]) if flag in flags else other  # noqa: E731
+    memory = [it.split(":") for it in flags.get("memory", ())]
+    view = View("quiet" in flags, number("from", 0), number("to", None), flags.get("only", [None])[-1], "matches" in flags, "counts" in flags, [(int(address, 16), int(count)) for address, count in memory], "names" in flags)
+    lines = [line.split(" ") for line in read(flags["keys"][-1]).splitlines()] if "keys" in flags else []
     keys = [(int(o[0]), int(o[2]), byte) for o in lines if o[1:2] == ["key"] for byte in bytes.fromhex(o[3])]
-    return "".join(Machine(words_of(read(source)), int(given.get("--random", 63)), keys).run(int(most), view)).encode()
+    return "".join(Machine(image(read(source)), number("random", 63), keys).run(int(most), view)).encode()
 
 
-def rows():
-    """The rows of bare runs: the name of each, a function to its files, its words, and the path of its text."""
-    for line in (DATA / "rows").read_text().splitlines():
-        folder, status, text, *words = line.split(" ")
-        if words[:1] == ["bare"] and status == "0":
-            yield line, files_in(DATA / folder), words, DATA / folder / text
-
-
-def main(words):
-    if words == ["--write"]:
-        for _, read, asked, path in rows():
-            path.write_bytes(told(read, asked))
-        return 0
-    if words == ["--check"]:
-        found = [name for name, read, asked, path in rows() if told(read, asked) != path.read_bytes()]
-        print("\n".join(found) or "bare_model: each row of a bare run is as the model has it")
-        return 1 if found else 0
-    sys.stdout.buffer.write(told(files_in(Path(words[0])), words[1:]))
-    return 0
+def files():
+    """The texts of the rows of bare runs."""
+    return [(it.text, told(files_in(it.folder), it.words)) for it in case_files.rows() if it.words[0] == "bare" and it.status == 0]
 
 
 if __name__ == "__main__":
-    sys.exit(main(sys.argv[1:]))
+    sys.exit(case_files.main(files, told))

@@ -2,8 +2,8 @@
 """What `dsmon run` and `dsmon trace` come to with --summary, --must-end, --memory and --most, by a plain model, and whether the rows have just that.
 
     tools/came_model.py FOLDER WORDS..   writes what the words after `dsmon` come to, with names looked up from FOLDER, and ends with the status
-    tools/came_model.py --check          names each row of crates/rows/data/rows with one of these flags whose status or text is otherwise
-    tools/came_model.py --write          writes the text of each of them anew
+    tools/came_model.py --check          names the text of each row of crates/rows/data/rows with one of these flags where that or its status is otherwise
+    tools/came_model.py --write          writes each of them anew
 
 It is written after docs/formats.md ("After the text", "What standard error tells of a run", "A bound of what is written"), over tools/trace_model.py, and
 shares nothing with the program. Of words that ask for nothing it knows those of --memory alone: the rows of came/by_hand were written by hand, and no text is
@@ -13,10 +13,12 @@ import re
 import sys
 import tomllib
 from collections import Counter
-from pathlib import Path
-from typing import NamedTuple, Optional
+from typing import NamedTuple
 
-from trace_model import DATA, UNKNOWN, Denied, Traced, begun, files_in, is_refused_command, rule_of
+import case_files
+import trace_model
+from case_files import DATA, files_in
+from trace_model import UNKNOWN, Denied, Traced, begun, is_refused_command, rule_of
 
 BY_HAND = "came/by_hand"
 FLAGS = ("--summary", "--must-end", "--memory", "--most")
@@ -24,19 +26,6 @@ PIECE = 65536  # so many ticks go by before the bytes are looked at
 MOST_WINDOWS, WORDS_IN_A_LINE = 8, 8
 DONE, WORDS_REFUSED, INPUT_REFUSED, TOO_MUCH, UNENDED = range(5)  # the statuses
 BAD_MEMORY = "dsmon: --memory takes P:ADDRESS:COUNT, as 1:00410000:8, at most eight times\n"
-
-
-class Asked(NamedTuple):
-    """What words ask for."""
-
-    command: str
-    policy: str
-    given: str
-    ticks: int
-    view: dict
-    flags: set
-    windows: list
-    most: Optional[int]
 
 
 class Window(NamedTuple):
@@ -72,23 +61,12 @@ def window_of(text):
     return it
 
 
-def asked(words):
-    """What these words ask for; a flag's value stands after it, or after an equals sign."""
-    command, *rest = [part for word in words for part in word.split("=")]
-    left, names, flags, windows, most = iter(rest), [], set(), [], None
-    view = {"from": 0, "to": 2**63, "processes": set(), "only": None, "processor": "--processor" in rest, "entries": "--entries" in rest, "source": "--source" in rest, "names": "--names" in rest, "random": 63}
-    for it in left:
-        match it:
-            case "--from" | "--to" | "--random": view[it[2:]] = int(next(left))
-            case "--process": view["processes"].add(int(next(left)))
-            case "--only": view["only"] = next(left)
-            case "--memory": windows.append(window_of(next(left)))
-            case "--most": most = int(next(left))
-            case _: flags.add(it) if it.startswith("--") else names.append(it)
+def windows_of(flags):
+    """What all flags --memory ask for."""
+    windows = [window_of(it) for it in flags.get("memory", [])]
     if len(windows) > MOST_WINDOWS:
         raise BadMemory
-    policy, given, ticks = names
-    return Asked(command, policy, given, int(ticks), view, flags, windows, most)
+    return windows
 
 
 # A run.
@@ -97,32 +75,16 @@ class Counting(Traced):
     """A run in which it is counted what the end tells."""
 
     def __init__(self, *begun):
-        self.lost, self.first_lost, self.passes = Counter(), {}, False
+        self.told_lost, self.first_lost = Counter(), {}
         super().__init__(*begun)
 
     def boundary_half(self, runner):
-        due = Counter({line: 0 for line in range(4)})
-        for time, what, *o in self.events:
-            if what == "key" and time <= self.time:
-                due[o[0]] += len(o[1])
-        before = [len(it) for it in self.queues]
+        before = Counter(self.lost)
         super().boundary_half(runner)
-        for line, queue in enumerate(self.queues):
-            lost = due[line] - (len(queue) - before[line])
-            if lost and self.is_in_view() and self.view["only"] != "end":
-                self.lost[line] += lost
+        if self.is_in_view() and self.view.only != "end":
+            self.told_lost += self.lost - before
+            for line in self.lost - before:
                 self.first_lost.setdefault(line, self.time)
-
-    def run(self, n):
-        """As before; but where no turn is told, time in which nobody is ready and nothing is due goes by at once."""
-        while self.time < n and not self.has_ended():
-            if self.passes and not self.ready:
-                due = [n, *(it[0] for it in self.events[:1]), *(it.until for it in self.table.values() if it.until is not None)]
-                self.time = max(self.time, min(due) - 1)
-            self.turn()
-
-    def has_ended(self):
-        return all(it.state == "Ended" for it in self.processes.values())
 
     def ran(self):
         """What `dsmon run` writes."""
@@ -169,7 +131,7 @@ def came_words(run, n):
 
 
 def losses(run):
-    for line, count in sorted(run.lost.items()):
+    for line, count in sorted(run.told_lost.items()):
         if count == 1:
             yield f"1 character lost on console {line}, at time {run.first_lost[line]}"
         elif count:
@@ -177,16 +139,16 @@ def losses(run):
 
 
 def unknown_calls(run):
-    count = run.called[UNKNOWN] if run.view["only"] != "end" else 0
+    count = run.called[UNKNOWN] if run.view.only != "end" else 0
     if count:
         yield "1 call of a number that is no call" if count == 1 else f"{count} calls of numbers that are no call"
 
 
-def summary(run, it):
-    """What the run came to, in lines: of a run that is bounded without what goes unit by unit."""
-    yield f"{came_words(run, it.ticks)} at {run.time}"
+def summary(run, n, is_bounded):
+    """What a run for n ticks came to, in lines: of one that is bounded without what goes unit by unit."""
+    yield f"{came_words(run, n)} at {run.time}"
     yield from (stands(run, *one) for one in run.processes.items())
-    if it.most is None:
+    if not is_bounded:
         yield from unknown_calls(run)
         yield from losses(run)
     for rule, times in Counter(rule_of(line) for line in run.log if not is_refused_command(line)).items():
@@ -230,57 +192,41 @@ def text(lines):
 
 def came(read, words):
     """What these words come to, with a function from a file's name to its text."""
+    (command, policy, given, n), flags = trace_model.asked(words)
     try:
-        it = asked(words)
+        windows = windows_of(flags)
     except BadMemory:
         return Came(WORDS_REFUSED, b"", BAD_MEMORY.encode())
-    processes = len(tomllib.loads(read(it.policy))["process"])
-    lacking = [window.process for window in it.windows if window.process > processes]
+    processes = len(tomllib.loads(read(policy))["process"])
+    lacking = [it.process for it in windows if it.process > processes]
     if lacking:
         return Came(INPUT_REFUSED, b"", f"dsmon: 12 NoProcess {lacking[0]}\n".encode())
-    run = begun(read, it.policy, it.given, it.view, Counting)
-    run.passes = it.command == "run"
-    is_too_much = run.has_gone_too_far(it.ticks, it.most)
-    written = run.text() if it.command == "trace" else run.ran()
-    windows = text(line for window in it.windows for line in memory(run, window))
-    told = text(summary(run, it)) if "--summary" in it.flags else b""
-    line = [*unended(run)][:1] if "--must-end" in it.flags else []
+    run, most = begun(read, policy, given, Counting, trace_model.view_of(flags)), int(flags["most"][-1]) if "most" in flags else None
+    run.passes_idle = command == "run"
+    is_too_much = run.has_gone_too_far(int(n), most)
+    written = (run.text() if command == "trace" else run.ran()) + text(line for it in windows for line in memory(run, it))
+    told = text(summary(run, int(n), most is not None)) if "summary" in flags else b""
+    line = [*unended(run)][:1] if "must-end" in flags else []
     if is_too_much:
-        return Came(TOO_MUCH, written + windows, told + b"dsmon: 27 TooMuch\n")
-    return Came(UNENDED if line else DONE, written + windows, told + text(line))
+        return Came(TOO_MUCH, written, told + b"dsmon: 27 TooMuch\n")
+    return Came(UNENDED if line else DONE, written, told + text(line))
 
 
-def rows():
-    """The rows that this model can tell: the line of each, its folder, its status, its words, and the file of its text."""
-    for line in (DATA / "rows").read_text().splitlines():
-        folder, status, name, *words = line.split(" ")
-        if folder != BY_HAND and words[0] != "bare" and any(word.split("=")[0] in FLAGS for word in words):
-            yield line, folder, int(status), words, DATA / folder / name
+def files():
+    """The texts of the rows that this model can tell, each of which has its status."""
+    for it in case_files.rows():
+        if it.folder != DATA / BY_HAND and it.words[0] != "bare" and any(word.split("=")[0] in FLAGS for word in it.words):
+            status, out, err = came(files_in(it.folder), it.words)
+            yield it.text, out + err if status == it.status else f"the status is {status}: {it.line}\n"
 
 
-def others():
-    """The rows whose status or text is otherwise, with what the model has."""
-    for line, folder, status, words, file in rows():
-        it = came(files_in(DATA / folder), words)
-        if (it.status, it.out + it.err) != (status, file.read_bytes() if file.is_file() else None):
-            yield line, it, file
-
-
-def main(words):
-    if words == ["--write"]:
-        for line, it, file in others():
-            file.write_bytes(it.out + it.err)
-            print(f"{it.status} {line}")
-        return 0
-    if words == ["--check"]:
-        found = [line for line, _, _ in others()]
-        print("\n".join(found) or "came_model: each row is as the model has it")
-        return 1 if found else 0
-    it = came(files_in(Path(words[0])), words[1:])
-    sys.stdout.buffer.write(it.out)
-    sys.stderr.buffer.write(it.err)
-    return it.status
+def told(read, words):
+    """Writes what words come to, and ends with their status."""
+    status, out, err = came(read, words)
+    sys.stdout.buffer.write(out)
+    sys.stderr.buffer.write(err)
+    sys.exit(status)
 
 
 if __name__ == "__main__":
-    sys.exit(main(sys.argv[1:]))
+    sys.exit(case_files.main(files, told))

@@ -19,7 +19,6 @@ sys.path.insert(0, str(Path(__file__).resolve().parent))
 
 import debug_sessions as sessions  # noqa: E402
 import trace_model  # noqa: E402
-from hostile_model import NotQuiet  # noqa: E402
 
 # The folder below examples/, the policy, the input, and N.
 RUNS = [
@@ -67,8 +66,7 @@ class Position:
 
 def positions(folder, policy, given, n):
     """All positions of a run, in their order."""
-    view = {"from": 0, "to": 0, "processes": set(), "only": None, "processor": False, "entries": False, "source": False, "names": False, "random": 63}
-    run = trace_model.begun(trace_model.files_in(sessions.TOP / "examples" / folder), policy, given, view)
+    run = trace_model.begun(trace_model.files_in(sessions.TOP / "examples" / folder), policy, given, trace_model.Traced, trace_model.View(end=0))
     found = [Position(run)]
     while found[-1].goes_on(n):
         run.turn()

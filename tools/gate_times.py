@@ -15,7 +15,6 @@ import json
 import os
 import subprocess
 import sys
-import threading
 import time
 from collections import defaultdict
 from pathlib import Path
@@ -43,79 +42,62 @@ def process_of(text):
     return Process(int(fields[1]), int(fields[19]), (int(fields[11]) + int(fields[12])) / TICKS)
 
 
-def processes():
-    """All processes by their numbers."""
-    found = {}
-    for name in filter(str.isdigit, os.listdir("/proc")):
-        try:
-            found[int(name)] = process_of(Path("/proc", name, "stat").read_text("utf-8", "replace"))
-        except OSError:  # (it has ended)
-            pass
-    return found
+def of_proc(number, name):
+    """What a file of a process's folder in /proc holds, or nothing where it has ended."""
+    try:
+        return Path("/proc", str(number), name).read_bytes().decode("utf-8", "replace")
+    except OSError:
+        return ""
 
 
 def below(root, found):
     """The numbers of the processes that a process started, and those that these started."""
-    children = defaultdict(list)
-    for number, it in found.items():
-        children[it.parent].append(number)
-    left = list(children[root])
-    while left:
-        number = left.pop()
-        left += children[number]
-        yield number
+    children = [number for number, it in found.items() if it.parent == root]
+    return [*children, *(it for child in children for it in below(child, found))]
 
 
 def belongs(words, folder):
     """The crate and the kind of a process with these words, in this folder."""
     if "--crate-name" not in words[:-1]:
         return "", "other"
-    crate = words[words.index("--crate-name") + 1]
     tried = [kind for kind, room in ROOMS.items() if os.path.basename(folder).startswith(room)]
-    return crate, (tried or ["with tests" if "--test" in words else "proof"])[0]
+    return words[words.index("--crate-name") + 1], (tried or ["with tests" if "--test" in words else "proof"])[0]
 
 
-class Reader:
-    """Reads the processes below one, and keeps of each what it took."""
+def read(root, seen):
+    """Reads the processes below one, and keeps of each its words, its folder and what it took."""
+    texts = {int(it): text for it in os.listdir("/proc") if it.isdigit() and (text := of_proc(it, "stat"))}
+    found = {number: process_of(text) for number, text in texts.items()}
+    for number in below(root, found):
+        key = number, found[number].start
+        words, folder, _ = seen.get(key, ([], "", 0))
+        if "--crate-name" not in words:  # (a process may still become what it is to run)
+            words = of_proc(number, "cmdline").split("\0") or words
+            folder = os.path.realpath(f"/proc/{number}/cwd")
+        seen[key] = words, folder, found[number].took
 
-    def __init__(self, root):
-        self.root, self.seen = root, {}
 
-    def read(self):
-        found = processes()
-        for number in below(self.root, found):
-            it = found[number]
-            words, folder = self.seen.get((number, it.start), (None, None))[:2]
-            try:
-                if not words or "--crate-name" not in words:  # (a process may still become what it is to run)
-                    words = Path(f"/proc/{number}/cmdline").read_bytes().decode("utf-8", "replace").split("\0")
-                    folder = os.readlink(f"/proc/{number}/cwd")
-            except OSError:
-                words, folder = words or [], folder or ""
-            self.seen[number, it.start] = (words, folder, it.took)
-
-    def rows(self):
-        """What each crate took of each kind."""
-        total = defaultdict(float)
-        for words, folder, took in self.seen.values():
-            total[belongs(words, folder)] += took
-        return [[crate, kind, round(seconds, 2)] for (crate, kind), seconds in sorted(total.items())]
+def rows_of(seen):
+    """What each crate took of each kind."""
+    total = defaultdict(float)
+    for words, folder, took in seen.values():
+        total[belongs(words, folder)] += took
+    return [[crate, kind, round(seconds, 2)] for (crate, kind), seconds in sorted(total.items())]
 
 
 def measured(words, keep=None):
     """Runs a command, and returns its status, and what each crate took of each kind."""
-    ran = subprocess.Popen(words, cwd=TOP, stdin=subprocess.DEVNULL)
-    reader, done = Reader(ran.pid), threading.Event()
-    threading.Thread(target=lambda: (ran.wait(), done.set()), daemon=True).start()
-    kept = time.monotonic()
-    while not done.wait(SECONDS):
-        reader.read()
-        if keep and time.monotonic() - kept > 10:
-            Path(keep).write_text(json.dumps(reader.rows()), "utf-8")
-            kept = time.monotonic()
+    seen, kept = {}, time.monotonic()
+    with subprocess.Popen(words, cwd=TOP, stdin=subprocess.DEVNULL) as ran:
+        while ran.poll() is None:
+            read(ran.pid, seen)
+            if keep and time.monotonic() - kept > 10:
+                Path(keep).write_text(json.dumps(rows_of(seen)), "utf-8")
+                kept = time.monotonic()
+            time.sleep(SECONDS)
     if keep:
-        Path(keep).write_text(json.dumps(reader.rows()), "utf-8")
-    return ran.returncode, reader.rows()
+        Path(keep).write_text(json.dumps(rows_of(seen)), "utf-8")
+    return ran.returncode, rows_of(seen)
 
 
 def main(words):

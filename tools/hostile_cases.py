@@ -6,17 +6,15 @@ a branch, and has its pages, those of its slots and its data in three regions of
 holds. Each process begins with a page and its copy, so that its first store to either waits for a copy. At the end commands put other
 code in place of the program, which puts its registers and what its pages hold; another process, which nobody can change, puts what the
 policy's pages hold. Programs that could tell whether a refill came before an instruction are drawn again, so a text is one at each
-start of Random. tools/test_hostile_cases.py tests that the files are as this script writes them, and that each kind of thing is met.
+start of Random. Each kind of thing is met, or nothing is written.
 """
 import random
-import re
-from functools import lru_cache
-from pathlib import Path
+import sys
 
-from case_files import policy_text, write
+import case_files
+from case_files import escaped, policy_text, with_lines
 from hostile_model import Hostile, NotQuiet, encode
 
-TOP = Path(__file__).resolve().parent.parent / "crates" / "rows" / "data"
 FOLDER = "hostile"
 CASES, STARTS = 60, (8, 35, 63)
 CODE, MORE, DATA, COPY, SIDE = 0x7F_F000, 0x80_0000, 0xC0_0000, 0xC0_1000, 0xC0_4000  # of a hostile process; DATA's page is at 00000000 too
@@ -237,7 +235,6 @@ def is_whole(run):
     return run.shares == 0 and sum(kind in run.seen for kind in KINDS) >= 3
 
 
-@lru_cache(None)
 def drawn(setting):
     """The programs of a setting's cases with their runs."""
     rng, made = random.Random(f"programs of {setting.name}"), []
@@ -251,6 +248,9 @@ def drawn(setting):
                 made.append((words, run))
         except NotQuiet:
             continue
+    for kind in (*KINDS, "a copy", "exec I 10 in a slot", "store r 1", "fetch r 2"):
+        assert sum(kind in run.seen for _, run in made) > 1, f"{setting.name} does not meet {kind}"
+    assert set().union(*(run.calls for _, run in made)) == set(range(11)), f"{setting.name} does not make each call"
     return made
 
 
@@ -259,22 +259,6 @@ SETTINGS = [
     Setting("two", "Two processes in the same pages, which take turns by calls alone, and one that looks at them.", 2, 0),
     Setting("two_by_the_clock", "Two processes in the same pages, which take turns every 32 ticks, and one that looks at them.", 2, 3),
 ]
-
-
-def escaped(text):
-    """What is expected, as a file of cases has it."""
-    lines = ["".join(chr(it) if 32 <= it < 127 and it != 92 else f"\\x{it:02X}" for it in line) for line in expected_lines(text)]
-    return "".join((f"\\x3D{it[1:]}" if it.startswith("=") else it) + "\n" for it in lines)
-
-
-def expected_lines(text):
-    """The lines of a text of a run, where a console may have line feeds: a line each."""
-    while match := re.match(rb"console (\d) (\d+)\n", text):
-        yield match[0][:-1]
-        end = match.end() + int(match[2])
-        yield text[match.end():end]
-        text = text[end + 1:]
-    yield from text.splitlines()
 
 
 def cases(setting):
@@ -287,19 +271,17 @@ def cases(setting):
 
 
 def files():
-    made = {"show.s": source("The first page does nothing, and the second puts registers and data.", words_of(show()), 4096 + SKIPPED),
-            "witness.s": source("Waits, and puts what the policy's pages hold.", words_of(witness()))}
-    for setting in SETTINGS:
-        made |= {f"{setting.name}.toml": setting.policy(), f"{setting.name}.input": setting.input()}
-        made[f"{setting.name}.cases"] = cases(setting)
-    return {TOP / FOLDER / name: text.encode() for name, text in made.items()}
-
-
-def lines():
-    """Their lines of data/tables, one for each start of Random."""
-    return [f"{FOLDER} one.s {setting.name}.cases run {setting.name}.toml {setting.name}.input {N} --random {start}"
-            for setting in SETTINGS for start in STARTS]
+    """The sources, policies, inputs and cases, and the index with a line of each table for some starts of Random."""
+    folder = case_files.DATA / FOLDER
+    yield folder / "show.s", source("The first page does nothing, and the second puts registers and data.", words_of(show()), 4096 + SKIPPED)
+    yield folder / "witness.s", source("Waits, and puts what the policy's pages hold.", words_of(witness()))
+    for it in SETTINGS:
+        yield folder / f"{it.name}.toml", it.policy()
+        yield folder / f"{it.name}.input", it.input()
+        yield folder / f"{it.name}.cases", cases(it)
+    lines = [f"{FOLDER} one.s {it.name}.cases run {it.name}.toml {it.name}.input {N} --random {start}" for it in SETTINGS for start in STARTS]
+    yield case_files.DATA / "tables", with_lines(case_files.DATA / "tables", FOLDER, lines)
 
 
 if __name__ == "__main__":
-    write(files())
+    sys.exit(case_files.main(files))

@@ -34,6 +34,19 @@ LOADS, STORES = "lb lh lwl lw lbu lhu lwr".split(), "sb sh swl sw swr".split()
 SIZES = {"lh": 2, "lhu": 2, "sh": 2, "lw": 4, "sw": 4}
 
 
+def merged(name, whole, b, old):
+    """What lwl or lwr makes of a register that held `old`, by the word around an address that is b more than a multiple of 4."""
+    return whole << 24 - 8 * b | old % (1 << 24 - 8 * b) if name == "lwl" else old >> 32 - 8 * b << 32 - 8 * b | whole >> 8 * b
+
+
+def stored(name, value, b):
+    """The bytes that a store writes, and how far before such an address they begin."""
+    if name == "swl":
+        return (value >> 24 - 8 * b).to_bytes(b + 1, "little"), b
+    size = 4 - b if name == "swr" else SIZES.get(name, 1)
+    return (value & (1 << 8 * size) - 1).to_bytes(size, "little"), 0
+
+
 class NotQuiet(Exception):
     """What an instruction reads depends on whether a touch came before."""
 
@@ -112,8 +125,7 @@ class Hostile(Run):
         if name in ("lwl", "lwr"):
             if t in (26, 27):
                 raise NotQuiet
-            old = q.r[t]
-            value = whole << 24 - 8 * b | old % (1 << 24 - 8 * b) if name == "lwl" else old >> 32 - 8 * b << 32 - 8 * b | whole >> 8 * b
+            value = merged(name, whole, b, q.r[t])
         else:
             size = SIZES.get(name, 1)
             value = int.from_bytes(page[at:at + size], "little")
@@ -124,14 +136,8 @@ class Hostile(Run):
     def store(self, p, q, name, t, offset, base):
         # (the address is decided first: a value that is read late is no matter where the store is denied)
         page, at = self.accessed(p, q, "store", base, offset, SIZES.get(name, 1))
-        value, b = self.operand(q, t), at % 4
-        if name == "swl":
-            at, data = at - b, (value >> 24 - 8 * b).to_bytes(b + 1, "little")
-        elif name == "swr":
-            data = (value << 8 * b & MASK).to_bytes(4, "little")[b:]
-        else:
-            size = SIZES.get(name, 1)
-            data = (value & (1 << 8 * size) - 1).to_bytes(size, "little")
+        data, before = stored(name, self.operand(q, t), at % 4)
+        at -= before
         number = self.number_of(page)
         if number in self.copied:
             self.sees("a store to a page with a copy")

@@ -1,44 +1,29 @@
-"""What a policy and an input come to, written from the rules of docs/policy.md and not from the code.
+"""Which policy and which input is refused, and for what cause, written from the rules of docs/policy.md, docs/policy_mistakes.md and
+docs/before_a_run.md, and not from the code.
 
 What TOML is comes from Python's own reader, `tomllib`, with integers of 64 bits.
 """
 import re
 import tomllib
+from typing import NamedTuple
 
-ROOT = {"version", "frames", "rate", "process", "page", "rule"}
-MOST_TICKS, MOST_EVENTS = 1_000_000_000, 4096
-
-
-def policy_refusal(text):
-    """Returns the refusal of a policy's bytes, as `10 Limit frames`, or None where it is good."""
-    try:
-        root = tomllib.loads(text.decode("utf-8"))
-    except ValueError:
-        return "8 BadToml"
-    if not are_of_64_bits(root):
-        return "8 BadToml"
-    if not ROOT.issuperset(root):
-        return "10 Limit key"
-    for key, is_good in CHECKS:
-        if not is_good(root):
-            return f"10 Limit {key}"
-    for number in range(1, len(root.get("rule", [])) + 1):
-        if not is_good_rule(root, number):
-            return f"9 BadRule {number}"
-    return None
+MOST_TICKS, MOST_EVENTS, MOST_ENTRIES, MOST_REGIONS = 1_000_000_000, 4096, 256, 4
 
 
-def sources(text):
-    """Returns the names of the sources of a policy's bytes in their order, where it is good."""
-    root = {} if policy_refusal(text) else tomllib.loads(text.decode("utf-8"))
-    return [it["source"] for it in root.get("page", []) if "source" in it]
+class Fault(NamedTuple):
+    """Why a policy is refused: its refusal, the name of the cause, and the array and the item that it is about, if it is of one."""
 
+    refusal: str
+    cause: str
+    array: str = None
+    item: int = None
+
+
+# Values.
 
 def are_of_64_bits(value):
-    if isinstance(value, dict):
-        return all(map(are_of_64_bits, value.values()))
-    if isinstance(value, list):
-        return all(map(are_of_64_bits, value))
+    if isinstance(value, (dict, list)):
+        return all(map(are_of_64_bits, value.values() if isinstance(value, dict) else value))
     return type(value) is not int or -(2**63) <= value < 2**63
 
 
@@ -51,101 +36,166 @@ def is_text(value, form):
     return isinstance(value, str) and re.fullmatch(form, value) is not None
 
 
-def are_tables(root, key, low, high, is_good):
+def is_list(root, key, low, high):
     rows = root.get(key, [])
-    return isinstance(rows, list) and low <= len(rows) <= high and all(isinstance(it, dict) and is_good(it) for it in rows)
+    return isinstance(rows, list) and low <= len(rows) <= high
 
 
-def is_good_rate(root):
-    return "rate" not in root or is_integer(root["rate"], 0, 15) and root["rate"] not in (1, 2)
+# A policy.
+
+ROOT = {  # the root keys in their order, each with the cause where all of its value is wrong
+    "version": ("BAD_VERSION", lambda root: is_integer(root.get("version"), 1, 2)),
+    "frames": ("BAD_FRAMES", lambda root: is_integer(root.get("frames"), 1, 1024)),
+    "rate": ("BAD_RATE", lambda root: "rate" not in root or is_integer(root["rate"], 0, 15) and root["rate"] not in (1, 2)),
+    "process": ("PROCESS_COUNT", lambda root: is_list(root, "process", 1, 100)),
+    "page": ("PAGE_COUNT", lambda root: is_list(root, "page", 0, root["frames"])),
+    "rule": ("RULE_COUNT", lambda root: is_list(root, "rule", 0, 999)),
+}
 
 
-def is_good_process(row):
-    return row.keys() == {"start", "line"} and is_integer(row["start"], 0, 2**32 - 1) and is_integer(row["line"], 0, 3)
+def policy_fault(text):
+    """The fault of a policy's bytes, or None where it is good."""
+    try:
+        root = tomllib.loads(text.decode("utf-8"))
+    except ValueError:
+        root = None
+    if root is None or not are_of_64_bits(root):
+        return Fault("8 BadToml", "NOT_TOML")
+    if not ROOT.keys() >= root.keys():
+        return Fault("10 Limit key", "OTHER_KEY")
+    for key, (cause, is_good) in ROOT.items():
+        if not is_good(root):
+            return Fault(f"10 Limit {key}", cause)
+        for at, row in enumerate(root.get(key, []) if key in ITEMS else []):
+            if found := ITEMS[key](root, at, row) if isinstance(row, dict) else f"{key.upper()}_NOT_TABLE":
+                return Fault(f"9 BadRule {at + 1}" if key == "rule" else f"10 Limit {key}", found, key, at + 1)
+    return None
 
 
-def is_good_page(row):
-    if row.keys() == {"name", "source", "part"}:
-        if not is_text(row["source"], "[A-Za-z0-9._/-]{1,64}") or not is_integer(row["part"], 0, 15):
-            return False
-    elif row.keys() != {"name"}:
-        return False
-    return is_text(row["name"], "[a-z0-9]{1,16}")
+def policy_refusal(text):
+    """The refusal of a policy's bytes, as `10 Limit frames`, or None where it is good."""
+    fault = policy_fault(text)
+    return fault and fault.refusal
 
 
-def are_good_pages(root):
-    if not are_tables(root, "page", 0, root["frames"], is_good_page):
-        return False
-    names = [it["name"] for it in root.get("page", [])]
-    return len(set(names)) == len(names)
+def sources(text):
+    """The names of the sources of a policy's bytes in their order, where it is good."""
+    root = {} if policy_fault(text) else tomllib.loads(text.decode("utf-8"))
+    return [it["source"] for it in root.get("page", []) if "source" in it]
 
 
-def are_few_rules(root):
-    rows = root.get("rule", [])
-    return isinstance(rows, list) and len(rows) <= 999
+# The cause for which an item is refused, where those before it are good, or None.
+
+def process_cause(root, at, row):
+    if not row.keys() <= {"start", "line"}:
+        return "PROCESS_OTHER_KEY"
+    if not is_integer(row.get("start"), 0, 2**32 - 1):
+        return "BAD_START"
+    return None if is_integer(row.get("line"), 0, 3) else "PROCESS_BAD_LINE"
 
 
-# The checks of root keys, in their order.
-CHECKS = [
-    ("version", lambda root: is_integer(root.get("version"), 1, 2)),
-    ("frames", lambda root: is_integer(root.get("frames"), 1, 1024)),
-    ("rate", is_good_rate),
-    ("process", lambda root: are_tables(root, "process", 1, 100, is_good_process)),
-    ("page", are_good_pages),
-    ("rule", are_few_rules),
-]
+def page_cause(root, at, row):
+    if not row.keys() <= {"name", "source", "part"}:
+        return "PAGE_OTHER_KEY"
+    if not is_text(row.get("name"), "[a-z0-9]{1,16}"):
+        return "BAD_NAME"
+    if row.keys() != {"name"}:
+        if not is_text(row.get("source"), "[A-Za-z0-9._/-]{1,64}"):
+            return "BAD_SOURCE"
+        if not is_integer(row.get("part"), 0, 15):
+            return "BAD_PART"
+    return "SAME_NAME" if row["name"] in [it["name"] for it in root["page"][:at]] else None
 
 
-def is_good_rule(root, number):
-    """Whether a rule is good, where those before it are."""
-    row, before = root["rule"][number - 1], root["rule"][: number - 1]
-    if not isinstance(row, dict) or not is_integer(row.get("process"), 1, len(root["process"])):
-        return False
+def rule_cause(root, at, row):
+    if not row.keys() <= {"process", "address", "right", "page", "give", "until"}:
+        return "RULE_OTHER_KEY"
+    if root["version"] == 1 and "until" in row:
+        return "UNTIL_OF_VERSION_1"
+    if not is_integer(row.get("process"), 1, len(root["process"])):
+        return "RULE_BAD_PROCESS"
     address = row.get("address")
     if not is_integer(address, 0, 2**31 - 1) or address % 4096:
-        return False
-    if not has_good_right(row, [it["name"] for it in root.get("page", [])], root["version"]):
-        return False
-    own = [it["address"] for it in before if it["process"] == row["process"]]
-    return address not in own and len(own) < 256 and len({it >> 22 for it in [*own, address]}) <= 4
+        return "RULE_BAD_ADDRESS"
+    if row.get("right") not in ("none", "read", "write"):
+        return "RULE_BAD_RIGHT"
+    if row["right"] == "none":
+        if row.keys() & {"page", "give", "until"}:
+            return "PAGE_OF_NONE" if row.keys() & {"page", "give"} else "UNTIL_OF_NONE"
+    elif not isinstance(row.get("page"), str) or row["page"] not in [it["name"] for it in root.get("page", [])]:
+        return "BAD_PAGE"
+    elif type(row.get("give", False)) is not bool:
+        return "RULE_BAD_GIVE"
+    elif not is_integer(row.get("until", 1), 1, MOST_TICKS):
+        return "BAD_UNTIL"
+    own = [it["address"] for it in root["rule"][:at] if it["process"] == row["process"]]
+    if address in own:
+        return "SAME_PLACE"
+    if len(own) >= MOST_ENTRIES:
+        return "TOO_MANY_RULES"
+    return "FIFTH_REGION" if len({it >> 22 for it in [*own, address]}) > MOST_REGIONS else None
 
 
-def has_good_right(row, pages, version):
-    keys = row.keys() - {"process", "address", "right"}
-    if row.get("right") == "none":
-        return not keys
-    if row.get("right") not in ("read", "write") or not keys <= {"page", "give", *["until"][: version - 1]}:
-        return False
-    is_page = isinstance(row.get("page"), str) and row["page"] in pages
-    return is_page and type(row.get("give", False)) is bool and is_integer(row.get("until", 1), 1, MOST_TICKS)
+ITEMS = {"process": process_cause, "page": page_cause, "rule": rule_cause}
 
 
-def input_refusal(text, pages):
-    """Returns the refusal of an input's bytes under a policy with these pages, as `20 InputFault 3`, or None where it is good."""
-    latest, events = 0, 0
+# An input.
+
+WORDS = {  # the causes of an event's words after its name, in their order
+    "key": ("BadLine", "BadBytes"), "grant": ("BadProcess", "BadAddress", "UnknownPage", "BadRight", "BadGive"),
+    **dict.fromkeys(("narrow", "revoke", "drop"), ("BadProcess", "BadAddress")), **dict.fromkeys(("resume", "stop"), ("BadProcess",))}
+FORMS = {
+    "BadLine": "[0-3]", "BadBytes": "(?:[0-9A-Fa-f]{2}){1,256}", "BadProcess": "[0-9]{1,10}", "BadAddress": "[0-9A-Fa-f]{8}", "BadRight": "read|write", "BadGive": "give"}
+
+
+def input_fault(text, pages):
+    """The line of an input's bytes that is refused, what is wrong with it, and where that begins in it, or None where it is good."""
+    latest = events = 0
     for number, line in enumerate(text.split(b"\n"), 1):
         if not line or line.startswith(b"#"):
             continue
-        time = event_time(line.decode("latin-1"), pages)
-        if time is None or time < latest or events == MOST_EVENTS:
-            return f"20 InputFault {number}"
+        found = layout_fault(line) or words_fault(line.decode("latin-1").split(" "), pages)
+        time = 0 if found else int(line.split(b" ")[0])
+        if not found and time < latest:
+            found = "EarlierTime", 0
+        if not found and events == MOST_EVENTS:
+            found = "TooManyEvents", None
+        if found:
+            return number, *found
         latest, events = time, events + 1
     return None
 
 
-def event_time(line, pages):
-    """Returns the time of an event's line, or None where it is none."""
-    number, address = r"[0-9]{1,10}", "[0-9A-Fa-f]{8}"
-    names = "|".join(map(re.escape, pages)) or r"(?!)"
-    forms = [
-        r"key [0-3] (?:[0-9A-Fa-f]{2}){1,256}",
-        rf"grant ({number}) {address} (?:{names}) (?:read|write)(?: give)?",
-        rf"(?:narrow|revoke|drop) ({number}) {address}",
-        rf"(?:resume|stop) ({number})",
-    ]
-    for form in forms:
-        found = re.fullmatch(rf"({number}) {form}", line, re.ASCII)
-        if found:
-            time, *process = map(int, found.groups())
-            return time if time <= MOST_TICKS and all(it < 2**32 for it in process) else None
+def input_refusal(text, pages):
+    """The refusal of an input's bytes under a policy with these pages, as `20 InputFault 3`, or None where it is good."""
+    fault = input_fault(text, pages)
+    return fault and f"20 InputFault {fault[0]}"
+
+
+def layout_fault(line):
+    for byte, cause in ((b"\r", "CarriageReturn"), (b"\t", "Tab")):
+        if byte in line:
+            return cause, line.index(byte)
+    if line.startswith(b" "):
+        return "BlankAtStart", 0
+    if line.endswith(b" "):
+        return "BlankAtEnd", len(line) - 1
+    return ("TwoBlanks", line.index(b"  ")) if b"  " in line else None
+
+
+def words_fault(row, pages):
+    """What is wrong with the words of a line, and where that word begins."""
+    if not is_text(row[0], "[0-9]{1,10}") or int(row[0]) > MOST_TICKS:
+        return "BadTime", 0
+    if len(row) == 1:
+        return "WordCount", None
+    if row[1] not in WORDS:
+        return "UnknownEvent", len(row[0]) + 1
+    causes = WORDS[row[1]]
+    if len(row) - 2 not in ((4, 5) if row[1] == "grant" else (len(causes),)):
+        return "WordCount", None
+    for i, (cause, word) in enumerate(zip(causes, row[2:]), 2):
+        is_good = word in pages if cause == "UnknownPage" else is_text(word, FORMS[cause]) and (cause != "BadProcess" or int(word) < 2**32)
+        if not is_good:
+            return cause, len(" ".join(row[:i])) + 1
     return None

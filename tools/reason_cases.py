@@ -1,40 +1,27 @@
 #!/usr/bin/env python3
-"""Writes tables of sources, policies and inputs into crates/rows/data/mistakes/, each case with what `dsmon` tells of it.
+"""Writes what `dsmon` tells in tables of sources, policies and inputs of crates/rows/data/mistakes/ anew.
 
-Two are of sources, with what `dsmon list` tells by the rules of docs/mistakes.md: each byte alone in a line, directly after a statement, and after
-a statement and a blank; and statements that are cut off after each of their bytes. Four are of policies and inputs, with all that `dsmon check`
-tells by tools/reason_model.py: each byte in several places, and texts that are cut off after each of their bytes.
-tools/test_reason_cases.py holds the rules against the tables that were written by hand, and the files against this script.
+The texts are data, and stay. Two tables are of sources, with what `dsmon list` tells by the rules of docs/mistakes.md: each byte alone in a line, directly
+after a statement, and after a statement and a blank; and statements that are cut off after each of their bytes. The others are of policies and inputs, with
+all that `dsmon check` tells by tools/reason_model.py: each byte in several places, texts that are cut off after each of their bytes, and those of two tables
+that were written by hand.
 """
 import re
-from pathlib import Path
+import sys
 from typing import NamedTuple
 
-from case_files import write
-from reading_cases import INPUT, PAGES
+import case_files
+from reading_cases import without_escapes
 from reason_model import input_told, policy_told, shown
 
-DATA = Path(__file__).resolve().parent.parent / "crates" / "rows" / "data" / "mistakes"
-HEAD = "Written by tools/reason_cases.py, from the rules of docs/mistakes.md."
-TOLD = "Written by tools/reason_cases.py, with what tools/reason_model.py says that `dsmon check` tells."
-POLICY = (DATA.parent / "policies" / "code_and_data.toml").read_bytes()
-ARRAYS = b"""\
-version = 1
-frames = 2
-process = [{ start = 0x00400000, line = 3 }]
-page = [ { name = "code", source = "one.s", part = 0 }, { name = "a" }]
-rule = [
-\t{ process = 1, address = 0x00400000, right = "read", page = "code" },
-  { process = 1, address = 0x7ffff000, right = "write", page = "a", give = true }, { process = 1, address = 0, right = "none" },
-]
-"""
-ENDING = POLICY.replace(b"version = 1", b"version = 2") + b"until = 1000\n"
+DATA = case_files.DATA / "mistakes"
+CASE = re.compile(rb"^== (.*)\n((?s:.*?))((?:^-- .*\n)(?:\| .*\n)*)", re.M)
+PAGES = ["code", "data"]
 BLANKS = b" \t\r"
 LETTERS = b"abcdefghijklmnopqrstuvwxyz"
 UPPER = LETTERS.upper()
 DIGITS = b"0123456789"
 WRITTEN = LETTERS + UPPER + DIGITS + BLANKS + b"_$(),-.:"
-LINES = [b"x: addiu $t0, $t1, -8 # down", b"loop: lw $v0, -4($sp)", b"sll $t0,$t1,31", b"x: beq $a0, $zero, x", b".word 0x7fffffff # a number", b"j_: jalr $v1, $t9"]
 # What the operands of a statement are to be.
 KINDS = {
     b"add": ["a register"] * 3, b"addi": ["a register", "a register", "a number"], b"addiu": ["a register", "a register", "a number"],
@@ -48,8 +35,6 @@ SIGNS = {
     b";/!@": "A comment begins with `#`, and a line has one statement.", b"\"'": "Characters are written as numbers: `.byte 72`.",
     b"+*%=<>&|~^": "Numbers are written out, and an address is built by `lui` and `ori`."}
 OTHER_SIGN = "They hold letters, digits, `_`, blanks and `$ ( ) , - . :`."
-# The words of these tables that other processors have.
-OTHER_WORDS = {}
 REGISTERS = ("Registers are `$0` to `$31`, or `$zero`, `$at`, `$v0`, `$v1`, `$a0` to `$a3`,", "`$t0` to `$t9`, `$s0` to `$s7`, `$k0`, `$k1`, `$gp`, `$sp`, `$fp` and `$ra`.")
 WANTED = {
     "a register": "A register is `$` and a number or a name: `$8` or `$t0`.", "a number": "A number is decimal, with or without `-`, or hexadecimal after `0x`.",
@@ -81,7 +66,7 @@ def no_mnemonic(word):
         return Told(f"There is no directive `{quoted(word)}`.", word, ("There are `.word x`, `.byte n` and `.space n`.",))
     if any(c in UPPER for c in word):
         return Told(f"`{quoted(word)}` has letters in upper case. Mnemonics and directives are in lower case.", word)
-    return Told(f"There is no mnemonic `{quoted(word)}`.", word, OTHER_WORDS.get(word, ("A label has a colon directly after it, and a mnemonic a blank.",)))
+    return Told(f"There is no mnemonic `{quoted(word)}`.", word, ("A label has a colon directly after it, and a mnemonic a blank.",))
 
 
 def operands(least, most, found):
@@ -121,9 +106,9 @@ def after_a_blank(c):
     return Told(f"`{quoted(text)}` stands after the statement.", text, ("A line has one statement, and a comment begins with `#`.",)) if c in WRITTEN else no_byte(c)
 
 
-def cut_off(line, count):
-    """What is told of so many bytes of a line."""
-    front = re.sub(rb"^[a-z_]+:", b"", line[:count].split(b"#")[0]).strip()
+def cut_off(line):
+    """What is told of a line that may be cut off."""
+    front = re.sub(rb"^[a-z_]+:", b"", line.split(b"#")[0]).strip()
     word, _, rest = front.partition(b" ")
     if not front:
         return None
@@ -157,7 +142,9 @@ def caret_place(line, told):
 
 
 def listed(line, told):
-    """All lines that `dsmon list` tells of a line that is a source by itself."""
+    """All lines that `dsmon list` tells of a line that is a source by itself, or none where it is good."""
+    if told is None:
+        return None
     place = caret_place(line, told)
     return [f"3 Syntax one.s 1: {told.first}".encode(), *shown(line, 1, None if place is None else line[:place]), *map(str.encode, told.mending)]
 
@@ -165,11 +152,6 @@ def listed(line, told):
 def escaped(text):
     """A text as a table has it."""
     return "".join(chr(c) if 32 <= c <= 126 and c != 92 else f"\\x{c:02X}" for c in text)
-
-
-def case(title, text, told):
-    lines = listed(text, told) if told else [b"ok"]
-    return f"== {title}\n{escaped(text)}\n-- {escaped(lines[0])}\n" + "".join(f"| {escaped(it)}\n" for it in lines[1:])
 
 
 # Policies and inputs.
@@ -208,61 +190,43 @@ def in_a_text(c):
     return (21, 15) if c == ord('"') else (21, 16) if c == ord("\\") else (21, 14)
 
 
-def bytes_of_policies():
-    """Each byte in places of a policy, and where that is no document, if it is none."""
-    places = [
-        ("before a root key", POLICY.index(b"frames"), 0, in_a_key),
-        ("for the number of a line", POLICY.index(b"line = 0") + 7, 1, as_a_number),
-        ("for the last digit of an address", POLICY.index(b"0x00410000") + 9, 1, in_a_number),
-        ("for the last letter of a right", POLICY.index(b'write"') + 4, 1, in_a_text),
-    ]
-    for title, at, size, place in places:
-        for c in range(256):
-            yield f"{c:02X} {title}", POLICY[:at] + bytes([c]) + POLICY[at + size :], place(c)
+BYTES = {  # where a policy is no document that has another byte at a place, by the end of a case's name
+    "before a root key": in_a_key, "for the number of a line": as_a_number, "for the last digit of an address": in_a_number, "for the last letter of a right": in_a_text}
+SOURCES = {"alone": alone, "after a statement": directly_after, "after a statement and a blank": after_a_blank}
 
 
-def bytes_of_inputs():
-    """Each byte in places of an input."""
-    first, line = b"5 key 0 41\n", b"70 grant 1 00410000 data write give\n"
-    places = [("before a time", 0, 0), ("for a digit of a time", 0, 1), ("for a blank", 8, 1), ("for a digit of an address", 18, 1), ("at the end", len(line) - 1, 0)]
-    for title, at, size in places:
-        for c in range(256):
-            yield f"{c:02X} {title}", first + line[:at] + bytes([c]) + line[at + size :]
+def of_a_byte(rules, title):
+    """What a rule says by a byte in digits, with which a case's name begins."""
+    digits, _, place = title.partition(" ")
+    return rules[place](int(digits, 16))
 
 
-def checked(title, text, told):
-    """A case with all that `dsmon check` tells, or none where the text is good."""
-    lines = [f"== {title}", *(escaped_lines(text) if text else []), f"-- {told[0].decode()}" if told else "-- ok"]
-    return "\n".join(lines + ["| " + escaped(it) for it in (told or [])[1:]]) + "\n"
+# Of each table a function from a case's name and its text to the lines that are told, or none.
+TABLES = {
+    "source_bytes": lambda title, text: listed(text[:-1], of_a_byte(SOURCES, title)),
+    "source_prefixes": lambda title, text: listed(text[:-1], cut_off(text[:-1])),
+    "policy_bytes": lambda title, text: policy_told(text, of_a_byte(BYTES, title)),
+    **dict.fromkeys(("policy_prefixes", "array_prefixes", "ending_prefixes"), lambda title, text: policy_told(text, where_it_breaks_off(text))),
+    # The library tells that the second line is no TOML; a source's label is a key, without what has to stand behind one.
+    "policy": lambda title, text: policy_told(text, (2, 6 if title == "a source in the place of a policy" else 1)),
+    **dict.fromkeys(("input", "input_bytes", "input_prefixes"), lambda title, text: input_told(text, PAGES)),
+}
 
 
-def escaped_lines(text):
-    """The lines of a text as a table has them; a last line that has no line feed ends with a backslash."""
-    lines = [escaped(it) for it in text.split(b"\n")]
-    lines = [f"\\x{ord(it[0]):02X}{it[1:]}" if it.startswith(("==", "--")) else it for it in lines]
-    return lines[:-1] if not lines[-1] else [*lines[:-1], lines[-1] + "\\"]
-
-
-def tables():
-    """The name of each table of policies and inputs, and its cases."""
-    policies = [(title, text, policy_told(text, place)) for title, text, place in bytes_of_policies()]
-    yield "policy_bytes", policies
-    for name, policy in (("policy_prefixes", POLICY), ("array_prefixes", ARRAYS), ("ending_prefixes", ENDING)):
-        fronts = [(f"{count} bytes", policy[:count]) for count in range(len(policy) + 1)]
-        yield name, [(title, text, policy_told(text, where_it_breaks_off(text))) for title, text in fronts]
-    yield "input_bytes", [(title, text, input_told(text, PAGES)) for title, text in bytes_of_inputs()]
-    yield "input_prefixes", [(f"{count} bytes", INPUT[:count], input_told(INPUT[:count], PAGES)) for count in range(len(INPUT) + 1)]
+def renewed(told, found):
+    """A case with what is told of it."""
+    title, text, stands = found.groups()
+    lines = told(title.decode(), without_escapes(text)) or [b"ok"]
+    if without_escapes(re.sub(rb"(?m)^(-- |\| )", b"", stands)) != b"".join(it + b"\n" for it in lines):
+        stands = "".join(f"{mark} {escaped(it)}\n" for mark, it in zip(["--", *"|" * len(lines)], lines)).encode()
+    return b"== %s\n%s%s" % (title, text, stands)
 
 
 def files():
-    """The text of each file, by its path."""
-    places = [("alone", b"", alone), ("after a statement", b"nop", directly_after), ("after a statement and a blank", b"nop ", after_a_blank)]
-    every_byte = [case(f"{c:02X} {title}", front + bytes([c]), rule(c)) for title, front, rule in places for c in range(256)]
-    prefixes = [case(f"{count} bytes of line {i}", line[:count], cut_off(line, count)) for i, line in enumerate(LINES, 1) for count in range(len(line) + 1)]
-    made = [(name, HEAD, cases) for name, cases in (("source_bytes", every_byte), ("source_prefixes", prefixes))]
-    made += [(name, TOLD, [checked(*it) for it in cases]) for name, cases in tables()]
-    return {DATA / f"{name}.cases": f"# {head}\n\n" + "\n".join(cases) for name, head, cases in made}
+    for name, told in TABLES.items():
+        path = DATA / f"{name}.cases"
+        yield path, CASE.sub(lambda found: renewed(told, found), path.read_bytes())
 
 
 if __name__ == "__main__":
-    write(files())
+    sys.exit(case_files.main(files))

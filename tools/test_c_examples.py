@@ -20,31 +20,28 @@ def checked(compiler, texts):
     return status, out.splitlines()
 
 
+CHECKS = [  # the compiler that is here, what it makes, the status, and the first line
+    (NOTED, THERE, 0, "c_examples: the same words"),
+    ("another\n", THERE, 0, "c_examples: the same words"),
+    (NOTED, OTHER, 1, "c_examples: sieve-1.s: other words"),
+    ("another\n", OTHER, 0, "c_examples: sieve-1.s: other words"),
+    (None, OTHER, 0, "c_examples: no mipsel-linux-gnu-gcc, so nothing is compared"),
+]
+
+
 class Tests(unittest.TestCase):
-    def test_the_same_words_are_told_of_any_compiler(self):
-        for compiler in (NOTED, "another\n"):
-            self.assertEqual((0, ["c_examples: the same words"]), checked(compiler, THERE))
-
-    def test_other_words_of_the_noted_compiler_are_wrong(self):
-        status, said = checked(NOTED, OTHER)
-        self.assertEqual((1, "c_examples: sieve-1.s: other words"), (status, said[0]))
-
-    def test_other_words_of_another_compiler_are_told_with_both_names(self):
-        status, said = checked("another\n", OTHER)
-        self.assertEqual((0, "c_examples: sieve-1.s: other words"), (status, said[0]))
-        self.assertEqual([*NOTED.splitlines(), "and compiled by", "another"], said[2:])
-
-    def test_no_compiler_is_told(self):
-        self.assertEqual(0, checked(None, OTHER)[0])
+    def test_words_are_the_noted_compilers(self):
+        for compiler, made, *wanted in CHECKS:
+            status, lines = checked(compiler, made)
+            self.assertEqual(wanted, [status, lines[0]])
+        self.assertEqual([*NOTED.splitlines(), "and compiled by", "another"], checked("another\n", OTHER)[1][2:])
 
     def test_a_file_too_many_or_too_few_is_different(self):
         self.assertEqual(["sieve.toml"], different({name: text for name, text in THERE.items() if name != "sieve.toml"}))
         self.assertEqual(["more-1.s"], different({**THERE, "more-1.s": ""}))
 
     def test_what_a_person_wrote_is_not_compared(self):
-        self.assertIn("words.input", THERE)
-        self.assertNotIn("editor.input", THERE)
-        self.assertTrue(all(it.startswith(HEAD) for it in THERE.values()))
+        self.assertEqual((True, False, True), ("words.input" in THERE, "editor.input" in THERE, all(it.startswith(HEAD) for it in THERE.values())))
 
 
 if __name__ == "__main__":

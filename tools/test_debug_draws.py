@@ -1,15 +1,9 @@
 #!/usr/bin/env python3
 """Tests debug_draws.py over lists of positions that were worked out by hand."""
-import sys
 import unittest
-from pathlib import Path
 from types import SimpleNamespace
 
-sys.dont_write_bytecode = True
-sys.path.insert(0, str(Path(__file__).resolve().parent))
-
 import debug_draws as draws
-import debug_sessions as sessions
 
 
 def position(time, runner, pcs, word, log=(), ended=()):
@@ -34,61 +28,45 @@ PATH = [
 ]
 
 
+CALLS = position(0, 1, {1: 0x410000, 2: 0x400104}, 12, ended=[2])  # whose next unit is the last exit
+ENDING = [CALLS, position(1, None, {1: 0x410004, 2: 0x400104}, 12, ended=[1, 2])]
+TOLD = {  # packets, and what is answered last to each
+    # A watch is told of who watches; one of a process that doesn't go stops nobody; going back it is found where the session stands.
+    ("Z2,410000,4", "vCont;c", "vCont;c"): ["OK", "T05thread:p1.1;watch:00410000;", "T05thread:p1.1;watch:00410000;"],
+    ("Z2,410000,4", "vCont;c:p2.1"): ["OK", "T0bthread:p2.1;"],
+    ("Z2,410000,4", "vCont;c", "bc", "bs", "bc"): ["OK", "T05thread:p1.1;watch:00410000;", "T05thread:p1.1;watch:00410000;", "T05thread:p1.1;", "T05thread:p1.1;replaylog:begin;"],
+    # A denial is a signal; a range ends where it is left; a step back is one of its process, and one without a turn stays.
+    ("vCont;c", "vCont;c"): ["T0bthread:p2.1;", "T05thread:p2.1;replaylog:end;"],
+    ("vCont;r400000,400008:p1.1;c", "p25"): ["T05thread:p1.1;", "08004000"],
+    ("vCont;c", "Hcp1.1", "bs", "Hgp1.1", "p25"): ["T0bthread:p2.1;", "OK", "T05thread:p1.1;", "OK", "04004000"],
+    ("vCont;s", "Hcp2.1", "bs"): ["T05thread:p1.1;", "OK", "T02thread:p2.1;"],
+    # A time that is asked for is passed once; memory ends where it may not be loaded; what is too long, and too many.
+    ("qRcmd," + b"stop 2".hex(), "vCont;c", "vCont;c"): ["OK", "T05thread:p1.1;", "T0bthread:p2.1;"],
+    ("m410ffe,8", "m411000,4"): ["0000", "E14"],
+    ("Z2,410000,41",): ["E16"],
+    tuple(f"Z2,{at:x},1" for at in range(17)): ["OK"] * 16 + ["E1C"],
+}
+
+
 class Draws(unittest.TestCase):
-    def told(self, *packets, path=PATH, n=6):
-        debugger = draws.Debugger(path, n)
-        return [debugger.answer(it)[-1] for it in packets]
-
-    def test_a_watch_is_told_of_who_watches(self):
-        self.assertEqual(self.told("Z2,410000,4", "vCont;c", "vCont;c"), ["OK"] + ["T05thread:p1.1;watch:00410000;"] * 2)
-
-    def test_one_of_a_process_that_does_not_go_stops_nobody(self):
-        self.assertEqual(self.told("Z2,410000,4", "vCont;c:p2.1")[-1], "T0bthread:p2.1;")
-
-    def test_going_back_it_is_found_where_the_session_stands(self):
-        told = self.told("Z2,410000,4", "vCont;c", "bc", "bs", "bc")
-        self.assertEqual(told[2:], ["T05thread:p1.1;watch:00410000;", "T05thread:p1.1;", "T05thread:p1.1;replaylog:begin;"])
-
-    def test_a_denial_is_a_signal(self):
-        self.assertEqual(self.told("vCont;c", "vCont;c"), ["T0bthread:p2.1;", "T05thread:p2.1;replaylog:end;"])
-
-    def test_a_range_ends_where_it_is_left(self):
-        self.assertEqual(self.told("vCont;r400000,400008:p1.1;c", "p25"), ["T05thread:p1.1;", "08004000"])
-
-    def test_a_step_back_is_one_of_its_process(self):
-        self.assertEqual(self.told("vCont;c", "Hcp1.1", "bs", "Hgp1.1", "p25"), ["T0bthread:p2.1;", "OK", "T05thread:p1.1;", "OK", "04004000"])
-
-    def test_a_process_without_a_turn_stays(self):
-        self.assertEqual(self.told("vCont;s", "Hcp2.1", "bs"), ["T05thread:p1.1;", "OK", "T02thread:p2.1;"])
-
-    def test_a_time_that_is_asked_for_is_passed_once(self):
-        stop = "qRcmd," + b"stop 2".hex()
-        self.assertEqual(self.told(stop, "vCont;c", "vCont;c"), ["OK", "T05thread:p1.1;", "T0bthread:p2.1;"])
-
-    def test_memory_ends_where_it_may_not_be_loaded(self):
-        self.assertEqual(self.told("m410ffe,8", "m411000,4"), ["0000", "E14"])
-
-    def test_too_long_and_too_many(self):
-        self.assertEqual(self.told("Z2,410000,41"), ["E16"])
-        self.assertEqual(self.told(*(f"Z2,{at:x},1" for at in range(17)))[-1], "E1C")
+    def test_packets_are_answered(self):
+        for packets, wanted in TOLD.items():
+            debugger = draws.Debugger(PATH, 6)
+            self.assertEqual(wanted, [debugger.answer(it)[-1] for it in packets], packets)
 
     def test_the_last_exit_is_not_done(self):
-        calls = position(0, 1, {1: 0x410000, 2: 0x400104}, 12, ended=[2])
-        self.assertEqual(self.told("vCont;c", path=[calls, position(1, None, {1: 0x410004, 2: 0x400104}, 12, ended=[1, 2])]), ["T05thread:p1.1;replaylog:end;"])
-        self.assertTrue(calls.exits_next())
+        self.assertEqual("T05thread:p1.1;replaylog:end;", draws.Debugger(ENDING, 6).answer("vCont;c")[-1])
+        self.assertTrue(CALLS.exits_next())
 
     def test_examples_are_there_and_are_drawn(self):
         for run in draws.RUNS:
             path = draws.positions(*run)
             packets = draws.drawn(path, draws.random.Random(1), 40)
-            session = draws.Drawn(run, path, packets)
-            self.assertEqual(len(packets), 40)
-            self.assertTrue((session.folder / run[1]).is_file())
+            self.assertEqual((40, True), (len(packets), (draws.Drawn(run, path, packets).folder / run[1]).is_file()))
 
     def test_a_program_that_answers_nothing(self):
         run = draws.RUNS[0]
-        session = draws.Drawn(run, draws.positions(*run), ["g"])
-        self.assertIn("was to come", session.fault("/bin/true"))
+        self.assertIn("was to come", draws.Drawn(run, draws.positions(*run), ["g"]).fault("/bin/true"))
 
 
 if __name__ == "__main__":

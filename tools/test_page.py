@@ -61,7 +61,7 @@ CLANG = "#!/bin/sh\ncat \"$2\" >\"$3\"\n"
 
 class Made(InARoom):
     files = {
-        "top/crates/dsmon/module.bc": "a module",
+        "top/crates/dsmon/module.bc": "a module", "top/crates/dsmon/out/dsmon.stamp": "a stamp",
         "kit/bin/rt": RT, "kit/bin/rtlib.py": "", "kit/bin/rattle": "", "kit/toolchain/bin/clang": CLANG, "kit/KIT-ID": "a kit\n",
     }
 
@@ -69,7 +69,7 @@ class Made(InARoom):
         super().setUp()
         self.top, self.kit, self.room = (self.room / it for it in ("top", "kit", "room"))
         self.crate = self.top / "crates/dsmon"
-        for it in (self.room, self.crate / "out", self.kit / "toolchain/lib"):
+        for it in (self.room, self.kit / "toolchain/lib"):
             it.mkdir()
         for it in self.kit.glob("**/bin/*"):
             it.chmod(0o755)
@@ -77,37 +77,26 @@ class Made(InARoom):
     def test_a_kit_of_links_keeps_what_its_clang_is_given(self):
         rt = kit.linked(self.kit, self.room / "kit", self.room / "kept.bc")
         subprocess.run([rt, "run"], cwd=self.crate, check=True)
-        self.assertEqual("a module", (self.room / "kept.bc").read_text("utf-8"))
-        self.assertEqual("a module", (self.crate / "out/dsmon.o").read_text("utf-8"))
-        self.assertTrue((self.room / "kit/bin/rattle").is_symlink())
-        self.assertFalse((self.room / "kit/bin/rt").is_symlink())
+        for it in (self.room / "kept.bc", self.crate / "out/dsmon.o"):
+            self.assertEqual("a module", it.read_text("utf-8"))
+        self.assertEqual([True, False], [(self.room / "kit/bin" / it).is_symlink() for it in ("rattle", "rt")])
         self.assertEqual(CLANG, (self.kit / "toolchain/bin/clang").read_text("utf-8"))
 
     def test_the_module_of_the_proved_program_has_its_sum(self):
-        (self.crate / "out/dsmon.o").write_text("a module", "utf-8")
-        (self.crate / "out/dsmon.stamp").write_text("a stamp", "utf-8")
+        placed(self.crate, {"out/dsmon.o": "a module"})
         module, made = program.proved(self.top, self.kit, self.room)
         self.assertEqual(("a module", files.sum_of(module)), (module.read_text("utf-8"), made))
-        self.assertEqual("run -- demo\n", (self.crate / "said").read_text("utf-8"))
-        self.assertEqual("a stamp", (self.crate / "out/dsmon.stamp").read_text("utf-8"))
+        self.assertEqual(("run -- demo\n", "a stamp"), ((self.crate / "said").read_text("utf-8"), (self.crate / "out/dsmon.stamp").read_text("utf-8")))
 
-    def test_another_program_than_the_proved_one_is_refused_and_the_proved_one_stays(self):
-        (self.crate / "out/dsmon.o").write_text("another module", "utf-8")
-        with self.assertRaisesRegex(program.Refused, "another program"):
-            program.proved(self.top, self.kit, self.room)
-        self.assertEqual("another module", (self.crate / "out/dsmon.o").read_text("utf-8"))
-
-    def test_without_a_proved_program_nothing_is_built(self):
-        with self.assertRaisesRegex(program.Refused, "rt run -- demo"):
-            program.proved(self.top, self.kit, self.room)
-        self.assertFalse((self.crate / "said").exists())
-
-    def test_a_build_that_fails_is_told_and_the_proved_program_stays(self):
-        (self.crate / "out/dsmon.o").write_text("a module", "utf-8")
-        placed(self.kit, {"bin/rt": "#!/bin/sh\necho why\nexit 1\n"})
-        with self.assertRaisesRegex(program.Refused, "(?s)does not build.*why"):
-            program.proved(self.top, self.kit, self.room)
-        self.assertEqual("a module", (self.crate / "out/dsmon.o").read_text("utf-8"))
+    def test_without_the_proved_program_no_page_is_made_and_that_program_stays(self):
+        for number, (held, rt, why) in enumerate([(None, RT, "rt run -- demo"), ("another module", RT, "another program"), ("a module", "#!/bin/sh\necho why\nexit 1\n", "(?s)does not build.*why")]):
+            placed(self.crate, {"out/dsmon.o": held} if held else {})
+            placed(self.kit, {"bin/rt": rt})
+            (self.room / f"{number}").mkdir()
+            with self.assertRaisesRegex(program.Refused, why):
+                program.proved(self.top, self.kit, self.room / f"{number}")
+            self.assertEqual(held is not None, (self.crate / "said").exists())
+            self.assertEqual(held or "", (self.crate / "out/dsmon.o").read_text("utf-8") if held else "")
 
     def test_a_try_needs_no_proved_program(self):
         self.assertEqual("a module", program.tried(self.top, self.kit, self.room).read_text("utf-8"))
@@ -125,76 +114,52 @@ class Whole(InARoom):
 
     files = {"KIT-ID": "a kit\n", "module.bc": "a module"}
 
-    def setUp(self):
-        super().setUp()
-        self.to = self.room / "to"
-
     def made(self, wasm_opt):
-        """Makes the page with a `wasm-opt` of this name, and returns what is said."""
+        """Makes the page with a `wasm-opt` of this name, and returns what is said, and the text of each file by its name."""
+        to = self.room / "to"
+        stand_ins = {
+            "page.kit.installed": lambda: self.room, "page.program.tried": lambda *_: self.room / "module.bc",
+            "page.wasm.compiled": lambda kit, module, room, to: to.write_bytes(b"64 bits"), "page.wasm.lowered": lambda wasm_opt, module, to: to.write_bytes(b"32 bits"),
+            "shutil.which": lambda name: wasm_opt}
         with contextlib.ExitStack() as now:
-            for what, value in [
-                ("page.kit.installed", lambda: self.room),
-                ("page.program.tried", lambda *_: self.room / "module.bc"),
-                ("page.wasm.compiled", lambda kit, module, room, to: to.write_bytes(b"64 bits")),
-                ("page.wasm.lowered", lambda wasm_opt, module, to: to.write_bytes(b"32 bits")),
-                ("shutil.which", lambda name: wasm_opt),
-            ]:
+            for what, value in stand_ins.items():
                 now.enter_context(mock.patch(what, value))
-            status, out, _ = said(COMMAND.main, ["--try", str(self.to)])
+            status, out, _ = said(COMMAND.main, ["--try", str(to)])
         self.assertEqual(0, status)
-        return out
+        return out, {it.name: it.read_text("utf-8") for it in to.iterdir()}
 
-    def test_the_folder_has_the_page_and_of_what_it_was_made(self):
-        self.made("wasm-opt")
-        page = {it.name for it in (TOP / "page").iterdir()}
-        self.assertEqual(page | {"examples.js", "made.js", "dsmon.wasm", "dsmon32.wasm", "dsmon.html", "MADE"}, {it.name for it in self.to.iterdir()})
-        made = (self.to / "MADE").read_text("utf-8")
-        self.assertIn("kit a kit\n", made)
-        self.assertIn("proved no\n", made)
-        self.assertIn(f"{files.sum_of(self.to / 'dsmon.html')}  dsmon.html\n", made)
-        self.assertIn(base64.b64encode(b"32 bits").decode(), (self.to / "dsmon.html").read_text("utf-8"))
+    def test_the_folder_has_the_page_and_of_what_it_was_made_and_is_the_same_again(self):
+        _, made = self.made("wasm-opt")
+        self.assertEqual({it.name for it in (TOP / "page").iterdir()} | {"examples.js", "made.js", "dsmon.wasm", "dsmon32.wasm", "dsmon.html", "MADE"}, set(made))
+        for line in ("kit a kit\n", "proved no\n", f"{files.sum_of(self.room / 'to/dsmon.html')}  dsmon.html\n"):
+            self.assertIn(line, made["MADE"])
+        self.assertIn(base64.b64encode(b"32 bits").decode(), made["dsmon.html"])
+        self.assertEqual(made, self.made("wasm-opt")[1])
 
     def test_without_wasm_opt_the_twin_is_left_out_and_that_is_told(self):
         self.made("wasm-opt")
-        self.assertIn("binaryen", self.made(None))
-        self.assertFalse((self.to / "dsmon32.wasm").exists())
-        self.assertIn(base64.b64encode(b"64 bits").decode(), (self.to / "dsmon.html").read_text("utf-8"))
-
-    def test_a_page_is_made_anew_in_its_folder_and_is_the_same(self):
-        self.made("wasm-opt")
-        first = (self.to / "MADE").read_text("utf-8")
-        self.made("wasm-opt")
-        self.assertEqual(first, (self.to / "MADE").read_text("utf-8"))
+        out, made = self.made(None)
+        self.assertIn("binaryen", out)
+        self.assertNotIn("dsmon32.wasm", made)
+        self.assertIn(base64.b64encode(b"64 bits").decode(), made["dsmon.html"])
 
 
 class ForWasm(unittest.TestCase):
-    def setUp(self):
-        self.text = wasm.for_wasm(MODULE)
-
-    def test_the_target_is_another_and_no_word_is_for_an_x86_processor(self):
-        self.assertIn(wasm.LAYOUT, self.text)
-        self.assertIn(wasm.TRIPLE, self.text)
-        for word in ("x86", "probe-stack", "target-cpu"):
-            self.assertNotIn(word, self.text)
-
-    def test_start_stands_in_the_place_of_main_and_makes_its_call(self):
-        self.assertNotIn("@main", self.text)
-        self.assertIn('define i32 @start() #100000 {\n  %r = call i32 @"std+start"()\n  ret i32 %r\n}', self.text)
-        self.assertIn('attributes #100000 = { nounwind "wasm-export-name"="start" }', self.text)
-
-    def test_each_function_of_c_is_an_import_and_keeps_its_attributes(self):
-        self.assertNotIn("__sysv_signal", self.text)
-        self.assertIn("declare i32 @open(ptr, i32, ...) #100001\n", self.text)
-        self.assertIn('attributes #100001 = { nounwind willreturn "wasm-import-module"="env" "wasm-import-name"="open" }', self.text)
-        self.assertIn("declare i32 @rattle_errno() #100002\n", self.text)
-        self.assertIn('attributes #100002 = { nounwind "wasm-import-module"="env" "wasm-import-name"="rattle_errno" }', self.text)
-        self.assertIn("declare ptr @memcpy(ptr, ptr, i64) #2\n", self.text)
-        self.assertIn("declare void @llvm.trap() #3\n", self.text)
-
-    def test_all_else_stays_as_it_is(self):
-        for line in MODULE.splitlines():
-            if line.startswith(("define i32 @\"", "  %r", "  ret i32 %r", "attributes #1", "attributes #2", "attributes #3")):
-                self.assertIn(line, self.text)
+    def test_five_things_are_changed_and_all_else_stays_as_it_is(self):
+        text = wasm.for_wasm(MODULE)
+        kept = [it for it in MODULE.splitlines() if it.startswith(("define i32 @\"", "  %r", "  ret i32 %r", "attributes #1", "attributes #2", "attributes #3"))]
+        for part in (
+            wasm.LAYOUT, wasm.TRIPLE, *kept,
+            # start stands in the place of main, and makes its call
+            'define i32 @start() #100000 {\n  %r = call i32 @"std+start"()\n  ret i32 %r\n}', 'attributes #100000 = { nounwind "wasm-export-name"="start" }',
+            # each function of C is an import, and keeps its attributes
+            "declare i32 @open(ptr, i32, ...) #100001\n", 'attributes #100001 = { nounwind willreturn "wasm-import-module"="env" "wasm-import-name"="open" }',
+            "declare i32 @rattle_errno() #100002\n", 'attributes #100002 = { nounwind "wasm-import-module"="env" "wasm-import-name"="rattle_errno" }',
+            "declare ptr @memcpy(ptr, ptr, i64) #2\n", "declare void @llvm.trap() #3\n",
+        ):
+            self.assertIn(part, text)
+        for word in ("x86", "probe-stack", "target-cpu", "@main", "__sysv_signal"):
+            self.assertNotIn(word, text)
 
     def test_a_module_that_names_no_target_is_refused(self):
         with self.assertRaises(ValueError):
@@ -202,51 +167,36 @@ class ForWasm(unittest.TestCase):
 
 
 class Examples(unittest.TestCase):
-    def setUp(self):
-        self.found = examples.examples(TOP)
-
-    def test_each_policy_and_each_bare_guest_of_the_examples_is_there_once(self):
-        data = TOP / examples.DATA
-        wanted = {f"{folder}/{it.stem}".removeprefix("examples/") for folder in examples.FOLDERS for it in (data / folder).glob("*.s" if folder.endswith("bare") else "*.toml")}
-        self.assertEqual(sorted(wanted), sorted(it["name"] for it in self.found))
-
-    def test_each_has_its_texts_and_words_about_it(self):
-        for it in self.found:
+    def test_each_policy_and_each_bare_guest_of_the_examples_is_there_once_with_its_texts(self):
+        found = {it["name"]: it for it in examples.examples(TOP)}
+        wanted = {f"{folder}/{it.stem}".removeprefix("examples/") for folder in examples.FOLDERS for it in (TOP / examples.DATA / folder).glob("*.s" if folder.endswith("bare") else "*.toml")}
+        self.assertEqual(sorted(wanted), sorted(it["name"] for it in examples.examples(TOP)))
+        for it in found.values():
             with self.subTest(it["name"]):
                 self.assertGreater(len(it["about"]), 20)
                 self.assertNotIn("`", it["about"])
                 self.assertTrue(it["sources"] and all(it["sources"].values()))
-                self.assertTrue(it["policy"] if it["command"] == "trace" else not it["policy"])
+                self.assertEqual(it["command"] == "trace", bool(it["policy"]))
                 self.assertLessEqual(it["ticks"], examples.MOST_TICKS)
-
-    def test_a_name_in_a_policy_has_its_source(self):
-        by_name = {it["name"]: it for it in self.found}
-        self.assertEqual(["apart.s", "apart_busy.s"], list(by_name["apart_busy"]["sources"]))
-        self.assertEqual((20, "trace"), (by_name["denied_store"]["ticks"], by_name["denied_store"]["command"]))
-        self.assertIn("--only denials", by_name["labs/reach"]["flags"])
+        self.assertEqual(["apart.s", "apart_busy.s"], list(found["apart_busy"]["sources"]))
+        self.assertEqual((20, "trace"), (found["denied_store"]["ticks"], found["denied_store"]["command"]))
+        self.assertIn("--only denials", found["labs/reach"]["flags"])
 
 
 class OneFile(InARoom):
-    def setUp(self):
-        super().setUp()
+    def test_scripts_stand_whole_and_nothing_is_fetched(self):
         files.copied(TOP / "page", self.room)
         placed(self.room, {"examples.js": examples.script(TOP), "made.js": files.made_script({"proved": "no"}), "a.wasm": bytes(range(256))})
-        self.text = files.one_file(self.room, self.room / "a.wasm")
+        text = files.one_file(self.room, self.room / "a.wasm")
+        self.assertNotRegex(text, r"<script src|<link |https?://(?!www\.w3\.org/2000/svg)")
+        self.assertEqual(text.count("<script>"), text.count("</script>"))
+        self.assertGreater(text.count("<script>"), 15)
+        self.assertIn("globalThis.dsmon ||= {}).within = ", text)
 
-    def test_nothing_is_fetched(self):
-        self.assertNotRegex(self.text, r"<script src|<link |https?://(?!www\.w3\.org/2000/svg)")
-
-    def test_scripts_stand_whole_and_end_where_they_should(self):
-        self.assertEqual(self.text.count("<script>"), self.text.count("</script>"))
-        self.assertGreater(self.text.count("<script>"), 15)
-        self.assertIn("globalThis.dsmon ||= {}).within = ", self.text)
-
-    def test_each_file_of_the_page_is_in_it(self):
+    def test_each_file_of_the_page_is_in_it_and_is_short(self):
         index = (TOP / "page/index.html").read_text("utf-8")
-        named = set(files.SCRIPT.findall(index)) | set(files.STYLE.findall(index)) | {"index.html", "worker.js", "examples.js", "made.js"}
-        self.assertEqual(sorted(named - {"examples.js", "made.js"}), sorted(it.name for it in (TOP / "page").iterdir()))
-
-    def test_files_are_short(self):
+        named = {*files.SCRIPT.findall(index), *files.STYLE.findall(index), "index.html", "worker.js"} - {"examples.js", "made.js"}
+        self.assertEqual(sorted(named), sorted(it.name for it in (TOP / "page").iterdir()))
         for it in (TOP / "page").iterdir():
             self.assertLess(len(it.read_text("utf-8").splitlines()), 400, it.name)
 

@@ -4,10 +4,13 @@ import unittest
 
 import trace_model
 import unit_course
-from hostile_model import signed
-from trace_model import DATA, MASK, Traced, cases, files_in, rows, traced
+from case_files import DATA, cases, files_in, policy_text
+from hostile_model import NotQuiet, signed
+from trace_model import Traced, asked, traced
+from turns_model import MASK
 
-PUT_A = "trace ../../policies/code.toml ../../nothing.input".split()
+MOST = unit_course.EXPECTED
+NOTHING = "processor instructions 0 refills 0 double 0 services 0, as Random fell"
 
 
 class Touched(Traced):
@@ -24,8 +27,7 @@ class Touched(Traced):
 
 
 def begun(read, policy, given, kind=Traced, random=63):
-    view = {"from": 0, "to": 2**63, "processes": set(), "only": None, "processor": True, "entries": False, "source": False, "names": False, "random": random}
-    return trace_model.begun(read, policy, given, view, kind)
+    return trace_model.begun(read, policy, given, kind, trace_model.View(processor=True, random=random))
 
 
 def turns(run, n):
@@ -38,26 +40,26 @@ def turns(run, n):
             yield pc, {kind: times - before.get(kind, 0) for kind, times in run.done.items() if times > before.get(kind, 0)}
 
 
-def told(*flags):
+def lines_of(folder, words):
+    return traced(files_in(DATA / folder), ["trace", *words.split()]).decode().splitlines()
+
+
+def told(flags, n=100):
     """The lines of the processor of the run that puts A, with those of where a window ended."""
-    lines = traced(files_in(DATA / "runs" / "put_a"), [*PUT_A, *map(str, flags)]).decode().splitlines()
-    return [it for it in lines if it.startswith(("processor", "entries", "entry"))]
+    found = lines_of("runs/put_a", f"../../policies/code.toml ../../nothing.input {n} {flags}")
+    return [it for it in found if it.startswith(("processor", "entries", "entry"))]
 
 
-def at_the_end(*flags):
-    """Those of the end alone."""
-    lines = told(*flags)
-    return lines[next(k for k, it in enumerate(lines) if it.startswith("processor")):]
-
-
-def at_to(*flags):
-    """Those of where a window ended alone."""
-    return told(*flags)[:-len(at_the_end(*flags))]
+def at_to(flags, n=100):
+    """Those of where a window ended alone, and those of the end alone."""
+    found = told(flags, n)
+    at = next(k for k, it in enumerate(found) if it.startswith("processor"))
+    return found[:at], found[at:]
 
 
 def in_counts(n, to):
     """The lines of where a window ended of the run of `traces/counts`."""
-    lines = traced(files_in(DATA / "traces" / "counts"), ["trace", "two.toml", "keys.input", *map(str, (n, "--only", "calls", "--processor", "--to", to))]).decode().splitlines()
+    lines = lines_of("traces/counts", f"two.toml keys.input {n} --only calls --processor --to {to}")
     begin, end = (next(k for k, it in enumerate(lines) if it.startswith(word)) for word in ("entries", "processor"))
     return lines[begin:end]
 
@@ -79,36 +81,26 @@ class Tests(unittest.TestCase):
     def test_the_run_that_puts_a(self):
         counts = "processor instructions 19 refills 2 double 1 services 3, as Random fell"
         table, code = "entry 0 C0001000 1 00002000 read", "00400000 1 00192000 read"
-        self.assertEqual([counts, table, f"entry 52 {code}"], told(100, "--processor"))
-        self.assertEqual([counts, table, f"entry 53 {code}"], told(100, "--processor", "--random", 8))
+        self.assertEqual([counts, table, f"entry 52 {code}"], told("--processor"))
+        self.assertEqual([counts, table, f"entry 53 {code}"], told("--processor --random 8"))
         self.assertEqual([(0x400000, {"instruction": 15, "refill": 2, "double": 1, "service": 1})], list(turns(case("nop"), 1)))
 
-    def test_nothing_is_done_where_no_tick_passes(self):
-        self.assertEqual(["processor instructions 0 refills 0 double 0 services 0, as Random fell"], told(0, "--processor"))
-
-    def test_a_later_beginning_counts_what_comes_from_then_on(self):
-        self.assertEqual("processor instructions 4 refills 0 double 0 services 2, as Random fell", told(100, "--processor", "--from", 1)[0])
-        self.assertEqual("processor instructions 1 refills 0 double 0 services 1, as Random fell", at_the_end(100, "--processor", "--from", 4, "--to", 0)[0])
-
-    def test_with_the_end_alone_nothing_is_counted_and_the_entries_are_told(self):
-        nothing, *entries = told(100, "--processor", "--only", "end")
-        self.assertEqual("processor instructions 0 refills 0 double 0 services 0, as Random fell", nothing)
-        self.assertEqual(told(100, "--processor")[1:], entries)
+    def test_what_is_counted_is_from_a_beginning_on(self):
+        self.assertEqual([NOTHING], told("--processor", 0))
+        self.assertEqual([NOTHING, *told("--processor")[1:]], told("--processor --only end"))
+        for flags, counts in (("--from 1", "4 refills 0 double 0 services 2"), ("--from 4 --to 0", "1 refills 0 double 0 services 1")):
+            self.assertEqual(f"processor instructions {counts}, as Random fell", at_to(f"--processor {flags}")[1][0])
 
     # The page of the code is there once the first unit is done, at time 1, and nothing before. The run ends at time 5.
     def test_the_entries_where_a_window_ends(self):
-        found = told(100, "--processor")[1:]
-        self.assertEqual(["entries at 0, as Random fell"], at_to(100, "--processor", "--to", 0))
-        for time in (1, 2, 5):
-            self.assertEqual([f"entries at {time}, as Random fell", *found], at_to(100, "--processor", "--to", time))
-        self.assertEqual(["entries at 3, as Random fell", *found], at_to(3, "--processor", "--to", 3))
-        for n, *flags in ((100, "--to", 6), (3, "--to", 4), (100,), (100, "--to", 2, "--only", "end")):
-            self.assertEqual([], at_to(n, "--processor", *flags), flags)
-        self.assertEqual([], told(100, "--to", 2))
-
-    def test_where_no_line_is_told_the_entries_are_those_where_what_is_told_would_begin(self):
-        for begin, at in ((1, 1), (3, 3), (5, 5), (6, 5)):
-            self.assertEqual(f"entries at {at}, as Random fell", at_to(100, "--processor", "--from", begin, "--to", 1)[0])
+        found = told("--processor")[1:]
+        for time, n, entries in ((0, 100, []), *((time, 100, found) for time in (1, 2, 5)), (3, 3, found)):
+            self.assertEqual([f"entries at {time}, as Random fell", *entries], at_to(f"--processor --to {time}", n)[0])
+        for n, flags in ((100, "--to 6"), (3, "--to 4"), (100, ""), (100, "--to 2 --only end")):
+            self.assertEqual([], at_to(f"--processor {flags}", n)[0], flags)
+        self.assertEqual([], told("--to 2"))
+        for begin, at in ((1, 1), (3, 3), (5, 5), (6, 5)):  # (where no line is told, they are those where what is told would begin)
+            self.assertEqual(f"entries at {at}, as Random fell", at_to(f"--processor --from {begin} --to 1")[0][0])
 
     # Those at a time are those of the end of a run for so many ticks.
     def test_a_window_ends_with_the_entries_of_a_run_that_ends_there(self):
@@ -120,8 +112,7 @@ class Tests(unittest.TestCase):
     # A branch with its slot is two ticks. One begins at 20.
     def test_a_branch_may_go_past_the_end_of_a_window(self):
         for time, at in ((20, 20), (21, 22), (22, 22)):
-            lines = traced(files_in(DATA / "traces" / "keys"), ["trace", "two.toml", "few.input", "60", "--only", "denials", "--processor", "--to", str(time)]).decode().splitlines()
-            self.assertEqual(f"entries at {at}, as Random fell", lines[0])
+            self.assertEqual(f"entries at {at}, as Random fell", lines_of("traces/keys", f"two.toml few.input 60 --only denials --processor --to {time}")[0])
 
     # docs/architecture.md, "How a user instruction travels": steps 1 to 4, 6 to 15, 16 to 25 and 26 are instructions and words, 5 a service.
     def test_a_load_that_misses_its_instruction_and_its_data(self):
@@ -155,7 +146,7 @@ class Tests(unittest.TestCase):
             run = begun(files_in(DATA / "runs" / "longest_unit"), "policy.toml", "input", Touched, random)
             found = dict(turns(run, 100))
             self.assertEqual({"instruction": 61, "refill": 7, "double": 3, "copy": 1, "service": 4}, found[0x7FFFFC])
-            self.assertEqual(unit_course.EXPECTED["instructions"], max(it["instruction"] for it in found.values()))
+            self.assertEqual(MOST["instructions"], max(it["instruction"] for it in found.values()))
 
     # docs/machine.md, the example at the end of "The refill handler".
     def test_numbers_run_out(self):
@@ -173,15 +164,18 @@ class Tests(unittest.TestCase):
                 self.hold(run, title)
 
     def test_no_unit_takes_more_than_the_course_of_a_unit_has(self):
-        for line, read, (_, policy, given, n, *_), _ in rows():
+        runs = [(it.line, files_in(it.folder), it.words) for it in trace_model.rows() if it.words[0] == "trace"]
+        for it in (it for it in trace_model.tables() if it.words[0] == "trace"):
+            runs += [(case, files_in(it.folder, **{it.file: source}), it.words) for case, source, _ in cases(it.cases.read_text())]
+        for line, read, words in runs:
+            _, policy, given, n = asked(words)[0]
             run = begun(read, policy, given)
             try:
                 for _, it in turns(run, min(int(n), 2000)):
-                    self.assertLessEqual(it["instruction"], unit_course.EXPECTED["instructions"], line)
-                    self.assertLessEqual(it.get("refill", 0) - it.get("double", 0), unit_course.EXPECTED["tlbwr"], line)
-                    self.assertLessEqual(it.get("double", 0), unit_course.EXPECTED["entries of page tables"], line)
-                    self.assertLessEqual(it.get("double", 0) + it.get("copy", 0), unit_course.EXPECTED["services after which it goes on"], line)
-            except trace_model.NotQuiet:
+                    refills, doubles = it.get("refill", 0), it.get("double", 0)
+                    for count, kind in ((it["instruction"], "instructions"), (refills - doubles, "tlbwr"), (doubles, "entries of page tables"), (doubles + it.get("copy", 0), "services after which it goes on")):
+                        self.assertLessEqual(count, MOST[kind], line)
+            except NotQuiet:
                 continue
             self.assertEqual((63 - run.done["instruction"] - 8) % 56 + 8, run.buffer.random, line)
             self.hold(run, line)
@@ -198,28 +192,10 @@ class Tests(unittest.TestCase):
             self.assertTrue(it is None or (slot < 8) == (it.page >= 0xC0000), line)
 
 
-TWO_PAGES = """
-version = 1
-frames = 4
-process = [{ start = 0x00400000, line = 0 }]
-page = [{ name = "code", source = "one.s", part = 0 }, { name = "more", source = "one.s", part = 1 }, { name = "data" }]
-rule = [
-    { process = 1, address = 0x00400000, right = "read", page = "code" },
-    { process = 1, address = 0x00401000, right = "read", page = "more" },
-    { process = 1, address = 0x00410000, right = "read", page = "data" },
-]
-"""
-
-MANY = """
-version = 1
-frames = 1
-process = [{process}]
-page = [{{ name = "code", source = "one.s", part = 0 }}]
-rule = [{rule}]
-""".format(
-    process=", ".join(["{ start = 0x00400000, line = 0 }"] * 64),
-    rule=", ".join(f'{{ process = {p}, address = 0x00400000, right = "read", page = "code" }}' for p in range(1, 65)),
-)
+TWO_PAGES = policy_text(
+    "", 4, 0, [(0x400000, 0)], [("code", "one.s", 0), ("more", "one.s", 1), ("data",)],
+    [(1, 0x400000, "read", "code", False), (1, 0x401000, "read", "more", False), (1, 0x410000, "read", "data", False)])
+MANY = policy_text("", 1, 0, [(0x400000, 0)] * 64, [("code", "one.s", 0)], [(p, 0x400000, "read", "code", False) for p in range(1, 65)])
 
 if __name__ == "__main__":
     unittest.main()

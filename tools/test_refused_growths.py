@@ -21,8 +21,8 @@ def mark_of(refuse):
 class Played:
     """A program that answers as it has to, but where it is told to answer otherwise."""
 
-    def __init__(self, **other):
-        self.other = {mark.replace("on", "..").lstrip("_"): it for mark, it in other.items()}
+    def __init__(self, other):
+        self.other = other
 
     def answer(self, ticks, refuse):
         growth, on = mark_of(refuse)
@@ -68,6 +68,19 @@ int main(void) {
 }
 """
 ROW = Row("a row", "/", "policy", 3, (0, 1, 2, 3))
+DONE = Run(0, WHOLE, b"")
+FINE = [  # what is answered otherwise, and how often the run is whole all the same
+    ({}, 1), (dict.fromkeys(("8", "9", "8..", "9.."), DONE), 5)]
+WRONG = [  # what is answered otherwise, and what is told then
+    ({"6": Run(MEMORY, b"time 0\n", TOLD)}, "growth 6 of 9: before the run it wrote"),
+    *(({"7..": Run(MEMORY, text, TOLD)}, "growth 7.. of 9: this is no text of whole turns") for text in (b"", b"time 0", b"time 9\n")),
+    ({"3..": DONE}, "growth 3.. of 9: the status is 0"),
+    ({"2": Run(0, b"time 2\n", b"")}, "growth 2 of 9: the status is 0"),
+    ({"9": DONE, "8..": DONE}, "growth 8.. of 9: the status is 0"),
+    ({"8": DONE, "8..": DONE}, "growth 8.. of 9: the status is 0"),
+    *(({"4": run}, "growth 4 of 9: the status is") for run in (Run(1, b"", TOLD), Run(-11, b"", b""), Run(MEMORY, b"", b""), Run(MEMORY, b"", b"dsmon: 23 WriteFault\n"))),
+    ({"7": Run(MEMORY, b"time 2\n", TOLD)}, "a later growth was refused earlier"),
+]
 
 
 class Tests(unittest.TestCase):
@@ -75,36 +88,12 @@ class Tests(unittest.TestCase):
         self.lanes = ThreadPoolExecutor(2)
         self.addCleanup(self.lanes.shutdown)
 
-    def assert_wrong(self, why, **other):
-        with self.assertRaisesRegex(Wrong, why):
-            tried(Played(**other), ROW, self.lanes)
-
-    def test_each_growth_is_counted_where_all_is_right(self):
-        self.assertEqual(tried(Played(), ROW, self.lanes), (ALL, ALL - BEFORE, 1))
-
-    def test_a_text_before_the_run_is_wrong(self):
-        self.assert_wrong("growth 6 of 9: before the run it wrote", _6=Run(MEMORY, b"time 0\n", TOLD))
-
-    def test_a_text_that_is_none_of_whole_turns_is_wrong(self):
-        for text in (b"", b"time 0", b"time 9\n"):
-            self.assert_wrong("growth 7.. of 9: this is no text of whole turns", _7on=Run(MEMORY, text, TOLD))
-
-    def test_a_run_that_goes_on_without_memory_is_wrong(self):
-        self.assert_wrong("growth 3.. of 9: the status is 0", _3on=Run(0, WHOLE, b""))
-        self.assert_wrong("growth 2 of 9: the status is 0", _2=Run(0, b"time 2\n", b""))
-
-    def test_a_run_may_do_without_the_last_growths(self):
-        whole = Run(0, WHOLE, b"")
-        self.assertEqual(tried(Played(_8=whole, _9=whole, _8on=whole, _9on=whole), ROW, self.lanes), (ALL, ALL - BEFORE, 5))
-        self.assert_wrong("growth 8.. of 9: the status is 0", _9=whole, _8on=whole, _9on=whole)
-        self.assert_wrong("growth 8.. of 9: the status is 0", _8=whole, _8on=whole)
-
-    def test_another_status_or_line_is_wrong(self):
-        for run in (Run(1, b"", TOLD), Run(-11, b"", b""), Run(MEMORY, b"", b""), Run(MEMORY, b"", b"dsmon: 23 WriteFault\n")):
-            self.assert_wrong("growth 4 of 9: the status is", _4=run)
-
-    def test_a_later_growth_that_is_refused_earlier_is_wrong(self):
-        self.assert_wrong("a later growth was refused earlier", _7=Run(MEMORY, b"time 2\n", TOLD))
+    def test_each_growth_is_counted_where_all_is_right_and_what_is_wrong_is_told(self):
+        for other, wholes in FINE:
+            self.assertEqual(tried(Played(other), ROW, self.lanes), (ALL, ALL - BEFORE, wholes))
+        for other, why in WRONG:
+            with self.assertRaisesRegex(Wrong, why):
+                tried(Played(other), ROW, self.lanes)
 
     def test_a_guest_that_grows_too_little_is_wrong(self):
         first, byte, line = (b"console 0 %d\n%s\nlog %d\n" % it for it in ((0, b"", 0), (1, b".", 0), (1, b".", 1)))

@@ -66,6 +66,38 @@ KIT = {
 }
 
 
+ARCHIVE = "dsmon-1.2.3-x86_64-linux"
+FAILED = [  # what a gate does, and how that is told
+    ("echo '1 passed, 1 failed'; exit 1", "status 1, and it said at last: 1 passed, 1 failed"),
+    ("echo '1 passed, 1 failed'", "status 0, and it said at last: 1 passed, 1 failed"),
+    ("echo '5 passed, 0 failed'; echo '4 refused, 1 not refused'", "status 0, and it said at last: 4 refused, 1 not refused"),
+    ("echo '5 passed, 0 failed'; exit 3", "status 3, and it said at last: 5 passed, 0 failed"),
+    ("true", "status 0, and it said at last: nothing"),
+    ("echo '0 passed, 0 failed'", "status 0, and it said at last: 0 passed, 0 failed"),
+    ("echo '2 passed, 0 failed (low alone: not the gate)'", "status 0, and it said at last: 2 passed, 0 failed (low alone: not the gate)"),
+]
+OTHER_PROGRAM = PROGRAM.replace("VERSION", "1.2.3")
+REFUSED = [  # other files than those of the toy, and what is told then
+    *(({".ci/run": f"#!/bin/sh\n{gate}\n"}, f"the gate didn't pass: {why}") for gate, why in FAILED),
+    ({".ci/run": GATE + "echo more >> README.md\n"}, "the gate changed files, so that its clone isn't clean: README.md"),
+    ({".ci/run": None}, "the gate can't be run: [Errno 2] No such file or directory: '.ci/run'"),
+    ({".ci/run": "#!/bin/sh\necho '5 passed, 0 failed'\n"}, "the gate left no program in crates/dsmon/out"),
+    ({"program": PROGRAM.replace("VERSION", "0.1.0")}, "the program calls itself 0.1.0, and CHANGELOG.md begins with 1.2.3"),
+    *(({"CHANGELOG.md": changes}, "CHANGELOG.md begins with no version, such as `## 1.0.0`") for changes in ("# Changelog\n", "# Changelog\n\n## Next\n\n## 1.2.3\n")),
+    ({"README.md": README.replace("hello.s", "hello.t")}, f"in the archive `cd {ARCHIVE} && (cd examples && cat hello.t)` has status 1: cat: hello.t: No such file or directory"),
+    ({"program": OTHER_PROGRAM.replace("exit 0", "exit 4")}, f"in the archive `cd {ARCHIVE} && ./dsmon demo` has status 4: A"),
+    ({"docs/formats.md": "# Formats\n\n## What is written\n\nIt.\n"}, "docs/formats.md has no section Statuses of the program, and the manual page has it"),
+]
+PAGES = [  # what `MADE` of a page says, with other files than it has the sum of, and what is told then
+    ("commit 012345678901\nproved yes", {}, "is of another commit: 012345678901"),
+    ("commit COMMIT-dirty\nproved yes", {}, "is of another commit: COMMIT-dirty"),
+    ("proved yes", {}, "is of another commit: it names none"),
+    ("commit COMMIT\nproved no", {}, "is not of the proved program"),
+    ("commit COMMIT\nproved yes", {"more.js": ""}, "is not as it was made: more.js"),
+    ("commit COMMIT\nproved yes", {"index.html": "<b>"}, "is not as it was made: index.html"),
+]
+
+
 class Tests(InARoom):
     files = {f"kit/{path}": text for path, text in KIT.items()}
 
@@ -75,36 +107,35 @@ class Tests(InARoom):
 
     def git(self, *words):
         who = {f"GIT_{it}_{what}": value for it in ("AUTHOR", "COMMITTER") for what, value in [("NAME", "A"), ("EMAIL", "a@b.c"), ("DATE", "2026-11-29T12:00:00Z")]}
-        subprocess.run(["git", "-C", self.top, "-c", "commit.gpgsign=false", *words], env={**os.environ, **who}, check=True, capture_output=True)
+        return subprocess.run(["git", "-C", self.top, "-c", "commit.gpgsign=false", *words], env={**os.environ, **who}, check=True, capture_output=True, text=True).stdout
 
     def committed(self, **changed):
-        """A toy repository with a commit; a file may be another, or none."""
+        """A toy repository with a commit, by whose first digits it is named; a file may be another, or none."""
         shutil.rmtree(self.top, ignore_errors=True)
         placed(self.top, {path: text for path, text in {**FILES, **changed}.items() if text is not None})
         if (self.top / ".ci/run").exists():
             (self.top / ".ci/run").chmod(0o755)
         (self.top / "examples").symlink_to("crates/rows/data/examples")
-        self.git("init", "--quiet")
-        self.git("add", "--all")
-        self.git("commit", "--quiet", "--message", "All.")
+        for words in ("init --quiet", "add --all", "commit --quiet --message All."):
+            self.git(*words.split())
+        return self.git("rev-parse", "HEAD")[:12]
 
     def said(self, *words, to=None, needs=("libc.so.6",)):
         """The status of the script, what it said, and of what it complained."""
         with mock.patch.multiple(COMMAND, kit_here=lambda: (self.room / "kit", "toy kit"), libraries=lambda program: [*needs]):
             return said(COMMAND.main, [str(to or self.to), *words], self.top)
 
-    def refused(self, *words, **how):
-        """What the script says where it refuses, in its first line; there is no archive then."""
+    def assert_refused(self, why, *words, **how):
+        """The script refuses, and tells why in its first line; there is no archive then."""
         status, _, err = self.said(*words, **how)
-        self.assertEqual((2, []), (status, [*self.to.glob("*.tar.gz")]))
-        return err.splitlines()[0].removeprefix("release: ")
+        self.assertEqual((2, f"release: {why}", []), (status, err.splitlines()[0], [*self.to.glob("*.tar.gz")]))
 
-    def packed(self, name="dsmon-1.2.3-x86_64-linux"):
+    def packed(self, name=ARCHIVE):
         """The members of the archive by their names in its folder."""
         with tarfile.open(self.to / f"{name}.tar.gz") as it:
             return {member.name.removeprefix(f"{name}/"): (member, it.extractfile(member).read()) for member in it if member.isfile()}
 
-    def test_a_release_has_what_a_user_wants(self):
+    def test_a_release_has_what_a_user_wants_and_says_of_what_and_by_which_gate(self):
         self.committed()
         status, out, err = self.said()
         self.assertEqual((0, ""), (status, err))
@@ -113,12 +144,7 @@ class Tests(InARoom):
                           "examples/labs/README.md", *(f"tools/{it}" for it in contents.SCRIPTS), "licences/README", "licences/memchr/LICENSE-MIT",
                           "licences/itoa/LICENSE", "licences/core/LICENSE-of-text-mod"}, set(files))
         self.assertEqual({"dsmon", "tools/elf_to_policy.py"}, {name for name, (it, _) in files.items() if it.mode & 0o111})
-        self.assertIn(hashlib.sha256((self.to / "dsmon-1.2.3-x86_64-linux.tar.gz").read_bytes()).hexdigest(), out)
-
-    def test_made_says_of_what_and_by_which_gate(self):
-        self.committed()
-        self.said()
-        files = self.packed()
+        self.assertIn(hashlib.sha256((self.to / f"{ARCHIVE}.tar.gz").read_bytes()).hexdigest(), out)
         lines = files["MADE"][1].decode().splitlines()
         head = [it[2:] for it in lines if it.startswith("# ")]
         self.assertEqual("dsmon 1.2.3 for x86-64 Linux; it needs the C library", head[0])
@@ -127,64 +153,39 @@ class Tests(InARoom):
         self.assertTrue(head[6].startswith("proved: the crates dsmon, low, middle;") and head[7] == "with the kit's crates core, itoa, memchr, std")
         self.assertEqual({f"{hashlib.sha256(held).hexdigest()}  {name}" for name, (_, held) in files.items() if name != "MADE"}, set(lines[len(head):]))
 
-    def test_the_same_commit_gives_the_same_bytes(self):
+    def test_the_same_commit_gives_the_same_bytes_and_a_release_with_others_stays(self):
         self.committed()
         self.said()
-        first = (self.to / "dsmon-1.2.3-x86_64-linux.tar.gz").read_bytes()
+        path = self.to / f"{ARCHIVE}.tar.gz"
+        first = path.read_bytes()
         (self.top / "README.md").touch()
         was = os.umask(0o077)
         self.addCleanup(os.umask, was)
-        self.assertEqual(0, self.said(to=self.room / "elsewhere")[0])
-        self.assertEqual(first, (self.room / "elsewhere" / "dsmon-1.2.3-x86_64-linux.tar.gz").read_bytes())
-        self.assertEqual(0, self.said()[0])
-        with tarfile.open(self.to / "dsmon-1.2.3-x86_64-linux.tar.gz") as it:
+        self.assertEqual([0, 0], [self.said(to=self.room / "elsewhere")[0], self.said()[0]])
+        self.assertEqual(first, (self.room / "elsewhere" / path.name).read_bytes())
+        with tarfile.open(path) as it:
             self.assertEqual({(0, 0, "", 1795953600)}, {(one.uid, one.gid, one.uname, one.mtime) for one in it})
             self.assertEqual(sorted(it.getnames()), it.getnames())
-
-    def test_a_release_with_other_bytes_stays(self):
-        self.committed()
-        self.to.mkdir()
-        path = self.to / "dsmon-1.2.3-x86_64-linux.tar.gz"
         path.write_bytes(b"other")
         self.assertEqual((2, f"release: {path} is there already, with other bytes\n"), self.said()[::2])
         self.assertEqual(b"other", path.read_bytes())
 
-    def test_a_tree_that_is_not_clean_has_no_release(self):
+    def test_a_tree_that_is_not_clean_or_has_no_commit_has_no_release(self):
         self.committed()
         (self.top / "README.md").write_text("other", "utf-8")
-        self.assertEqual("the tree isn't clean: README.md", self.refused())
+        self.assert_refused("the tree isn't clean: README.md")
         (self.top / "more").touch()
-        self.assertEqual("the tree isn't clean: README.md and 1 more", self.refused())
+        self.assert_refused("the tree isn't clean: README.md and 1 more")
+        shutil.rmtree(self.top / ".git")
+        self.assertRegex(self.said()[2], "^release: git status: fatal: not a git repository")
 
-    def test_a_folder_without_a_commit_has_no_release(self):
-        placed(self.top, FILES)
-        self.assertRegex(self.refused(), "^git status: fatal: not a git repository")
-
-    def test_a_gate_that_did_not_pass_makes_no_release(self):
-        for gate, why in [
-            ("echo '1 passed, 1 failed'; exit 1", "status 1, and it said at last: 1 passed, 1 failed"),
-            ("echo '1 passed, 1 failed'", "status 0, and it said at last: 1 passed, 1 failed"),
-            ("echo '5 passed, 0 failed'; echo '4 refused, 1 not refused'", "status 0, and it said at last: 4 refused, 1 not refused"),
-            ("echo '5 passed, 0 failed'; exit 3", "status 3, and it said at last: 5 passed, 0 failed"),
-            ("true", "status 0, and it said at last: nothing"),
-            ("echo '0 passed, 0 failed'", "status 0, and it said at last: 0 passed, 0 failed"),
-            ("echo '2 passed, 0 failed (low alone: not the gate)'", "status 0, and it said at last: 2 passed, 0 failed (low alone: not the gate)"),
-        ]:
-            with self.subTest(gate):
-                self.committed(**{".ci/run": f"#!/bin/sh\n{gate}\n"})
-                self.assertEqual(f"the gate didn't pass: {why}", self.refused())
-                self.assertEqual(1, len([*self.to.glob("gate-*.log")]))
-                shutil.rmtree(self.to)
-
-    def test_a_gate_that_changes_files_makes_no_release(self):
-        self.committed(**{".ci/run": GATE + "echo more >> README.md\n"})
-        self.assertEqual("the gate changed files, so that its clone isn't clean: README.md", self.refused())
-
-    def test_a_tree_without_a_gate_or_a_program_has_no_release(self):
-        self.committed(**{".ci/run": None})
-        self.assertRegex(self.refused(), "^the gate can't be run: ")
-        self.committed(**{".ci/run": "#!/bin/sh\necho '5 passed, 0 failed'\n"})
-        self.assertEqual("the gate left no program in crates/dsmon/out", self.refused())
+    def test_what_makes_no_release_is_told(self):
+        for changed, why in REFUSED:
+            with self.subTest(why):
+                self.committed(**changed)
+                self.assert_refused(why)
+                self.assertLessEqual(len([*self.to.glob("gate-*.log")]), 1)
+                shutil.rmtree(self.to, ignore_errors=True)
 
     def test_a_candidate_is_called_so_and_names_its_gate(self):
         self.committed()
@@ -192,61 +193,27 @@ class Tests(InARoom):
             self.assertEqual(0, self.said("--candidate")[0])
         self.assertIn(b"9 passed, 0 failed\n", self.packed("dsmon-1.2.3-candidate-x86_64-linux")["MADE"][1])
 
-    def test_versions_have_to_agree(self):
-        self.committed(program=PROGRAM.replace("VERSION", "0.1.0"))
-        self.assertEqual("the program calls itself 0.1.0, and CHANGELOG.md begins with 1.2.3", self.refused())
-        for changes in ("# Changelog\n", "# Changelog\n\n## Next\n\n## 1.2.3\n"):
-            self.committed(**{"CHANGELOG.md": changes})
-            self.assertEqual("CHANGELOG.md begins with no version, such as `## 1.0.0`", self.refused())
-
-    def test_the_program_may_need_the_c_library_alone(self):
-        self.committed()
-        self.assertEqual("the program needs libm.so.6, and the C library alone is promised", self.refused(needs=["linux-vdso.so.1", "libm.so.6", "libc.so.6"]))
-        self.committed(program=PROGRAM.replace("VERSION", "1.2.3") + "# GLIBC_2.9 GLIBC_2.34 GLIBC_2.4\n")
+    def test_the_program_may_need_the_c_library_of_this_machine_alone(self):
+        self.committed(program=OTHER_PROGRAM + "# GLIBC_2.9 GLIBC_2.34 GLIBC_2.4\n")
+        self.assert_refused("the program needs libm.so.6, and the C library alone is promised", needs=["linux-vdso.so.1", "libm.so.6", "libc.so.6"])
         self.assertEqual(0, self.said(needs=["linux-vdso.so.1", "libc.so.6", "/lib64/ld-linux-x86-64.so.2"])[0])
         self.assertIn(b"it needs the C library, glibc 2.34 or later", self.packed()["MADE"][1])
-
-    def test_a_program_of_another_machine_is_refused(self):
         with self.assertRaisesRegex(Refused, "^the program is none of this machine: "):
             COMMAND.libraries(__file__)
 
-    def page_of(self, said, **more):
-        """A page's folder, whose `MADE` says this and the sum of its file."""
-        folder = self.room / "page"
-        shutil.rmtree(folder, ignore_errors=True)
-        placed(folder, {"index.html": "<p>", **more, "MADE": f"{said}\n{hashlib.sha256(b'<p>').hexdigest()}  index.html\n"})
-        return folder
+    def test_a_page_of_the_same_commit_comes_along_and_another_is_refused(self):
+        commit, page = self.committed(), self.room / "page"
 
-    def test_a_page_of_the_same_commit_comes_along(self):
-        self.committed()
-        commit = subprocess.run(["git", "-C", self.top, "rev-parse", "HEAD"], capture_output=True, text=True).stdout[:12]
-        self.assertEqual(0, self.said("--page", str(self.page_of(f"kit toy\ncommit 2d87c71a\ncommit {commit}\nproved yes")))[0])
+        def placed_page(said, more):
+            shutil.rmtree(page, ignore_errors=True)
+            placed(page, {"index.html": "<p>", **more, "MADE": f"{said.replace('COMMIT', commit)}\n{hashlib.sha256(b'<p>').hexdigest()}  index.html\n"})
+        for told, more, why in PAGES:
+            placed_page(told, more)
+            self.assert_refused(f"the page in {page} {why.replace('COMMIT', commit)}", "--page", str(page))
+        self.assert_refused(f"{self.room} has no page: there is no MADE, as tools/page.py writes it", "--page", str(self.room))
+        placed_page("kit toy\ncommit 2d87c71a\ncommit COMMIT\nproved yes", {})
+        self.assertEqual(0, self.said("--page", str(page))[0])
         self.assertEqual({"page/MADE", "page/index.html"}, {it for it in self.packed() if it.startswith("page/")})
-
-    def test_another_page_is_refused(self):
-        self.committed()
-        commit = subprocess.run(["git", "-C", self.top, "rev-parse", "HEAD"], capture_output=True, text=True).stdout[:12]
-        good = f"commit {commit}\nproved yes"
-        for folder, why in [
-            (lambda: self.page_of("commit 012345678901\nproved yes"), "is of another commit: 012345678901"),
-            (lambda: self.page_of(f"commit {commit}-dirty\nproved yes"), f"is of another commit: {commit}-dirty"),
-            (lambda: self.page_of("proved yes"), "is of another commit: it names none"),
-            (lambda: self.page_of(f"commit {commit}\nproved no"), "is not of the proved program"),
-            (lambda: self.page_of(good, **{"more.js": ""}), "is not as it was made: more.js"),
-            (lambda: self.page_of(good, **{"index.html": "<b>"}), "is not as it was made: index.html"),
-        ]:
-            self.assertEqual(f"the page in {self.room / 'page'} {why}", self.refused("--page", str(folder())))
-        self.assertEqual(f"{self.room} has no page: there is no MADE, as tools/page.py writes it", self.refused("--page", str(self.room)))
-
-    def test_an_archive_that_does_not_run_the_first_examples_is_no_release(self):
-        self.committed(**{"README.md": README.replace("hello.s", "hello.t")})
-        self.assertRegex(self.refused(), r"^in the archive `cd dsmon-1.2.3-x86_64-linux && \(cd examples && cat hello.t\)` has status 1: cat: hello.t: ")
-        self.committed(program=PROGRAM.replace("VERSION", "1.2.3").replace("exit 0", "exit 4"))
-        self.assertEqual("in the archive `cd dsmon-1.2.3-x86_64-linux && ./dsmon demo` has status 4: A", self.refused())
-
-    def test_a_document_that_lacks_a_section_is_told(self):
-        self.committed(**{"docs/formats.md": "# Formats\n\n## What is written\n\nIt.\n"})
-        self.assertEqual("docs/formats.md has no section Statuses of the program, and the manual page has it", self.refused())
 
 
 class Parts(InARoom):

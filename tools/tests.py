@@ -1,5 +1,5 @@
 #!/usr/bin/env python3
-"""Runs the tests of the scripts, and the scripts that test the program or the documents, side by side.
+"""Runs the tests of the scripts, and the scripts that test the program, its data or the documents, side by side.
 
 Each says what it said when it is done. The last line is 'N passed, M failed', and the status is 0 where M is 0.
 """
@@ -11,8 +11,26 @@ from concurrent.futures import ThreadPoolExecutor, as_completed
 from pathlib import Path
 
 TOP = Path(__file__).resolve().parent.parent
-LONGEST = "wrong_bodies elf_to_policy c_library conformance release hostile_cases grants_cases trace_model processor_model".split()
+LONGEST = """\
+test_wrong_bodies.py
+test_elf_to_policy.py
+test_c_library.py
+test_conformance.py
+test_release.py
+trace_model.py --check
+hostile_cases.py --check
+grants_cases.py --check
+turns_cases.py --check
+test_processor_model.py
+test_trace_model.py
+test_hostile_model.py
+""".splitlines()
 OTHERS = """\
+came_model.py --check
+bare_model.py --check
+bare_cases.py --check
+reading_cases.py --check
+reason_cases.py --check
 wrong_bodies.py --count
 refused_growths.py
 debug_sessions.py
@@ -23,14 +41,13 @@ c_examples.py --check
 refusals.py --check
 figures.py --check
 documents.py --check
-"""
+""".splitlines()
 
 
 def commands(top=TOP):
-    """The tests, of which those that take longest are first, and the scripts that test the program or the documents."""
-    tests = [f"test_{name}.py" for name in LONGEST]
-    tests += sorted({it.name for it in Path(top, "tools").glob("test_*.py")}.difference(tests))
-    return [["tools/" + words[0], *words[1:]] for words in map(str.split, [*tests, *OTHERS.splitlines()])]
+    """The tests, and the scripts that test something else than a script; those that take longest are first."""
+    tests = sorted({it.name for it in Path(top, "tools").glob("test_*.py")}.difference(LONGEST))
+    return [["tools/" + words[0], *words[1:]] for words in map(str.split, [*LONGEST, *tests, *OTHERS])]
 
 
 def ran(words, top=TOP):

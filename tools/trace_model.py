@@ -1,9 +1,9 @@
 #!/usr/bin/env python3
-"""What `dsmon trace` writes, by a plain model, and whether the rows of traces have just that.
+"""What `dsmon trace` and `dsmon run` write, by a plain model, and whether the rows and cases have just that.
 
     tools/trace_model.py FOLDER WORDS..   prints the trace that the words after `dsmon` ask for, with names looked up from FOLDER
-    tools/trace_model.py --check          names each row of crates/rows/data whose words begin with `trace` and whose text differs
-    tools/trace_model.py --write          writes the text of each of them anew, and names the cases that the model can't tell
+    tools/trace_model.py --check          names each text of a row or case of crates/rows/data whose words begin with `trace` or `run`, where it differs
+    tools/trace_model.py --write          writes each of them anew
 
 It is written after docs/trace.md, over tools/hostile_model.py, and shares nothing with the program; what the processor did is from
 tools/processor_model.py. It has no touch, so it stops with NotQuiet at a guest that could tell.
@@ -12,49 +12,87 @@ import re
 import sys
 import tomllib
 from collections import Counter
-from pathlib import Path
+from typing import NamedTuple, Optional
 
+import case_files
+from case_files import files_in
 from grants_model import NUMBERS
-from hostile_model import CODES, LOADS, STORES, NotQuiet, decode, encode, signed
+from hostile_model import CODES, LOADS, STORES, Hostile, NotQuiet, decode, encode, signed
 from processor_model import Processor
 from turns_model import MASK, NAMES, UNKNOWN, Denied, assemble
 
-DATA = Path(__file__).resolve().parent.parent / "crates" / "rows" / "data"
 BRANCHES = ("beq", "bne", "blez", "bgtz", "bltz", "bgez", "bltzal", "bgezal")
 LINKS, JUMPS = {"jal": 31, "bltzal": 31, "bgezal": 31}, ("j", "jal", "jr", "jalr", *BRANCHES)
+SYSTEM_WORDS = {"tlbr": 0x4200_0001, "tlbwi": 0x4200_0002, "tlbwr": 0x4200_0006, "tlbp": 0x4200_0008, "rfe": 0x4200_0010}
 HALVES, HIDDEN = ("andi", "ori", "xori", "lui"), (0, 26, 27)
 CALLS = "exit put get yield time self give take drop wait unknown".split()
 GIVE, COPY = 6, 3
 REFUSALS, COMMON = {number: name for name, number in NUMBERS.items()}, list(NAMES)
 MODES = {1: "read", 2: "write", 3: "copy"}
+MOST_TURNS = 60_000
+SWITCHES = {"processor", "entries", "source", "names", "summary", "must-end", "inside", "quiet", "matches", "counts"}  # flags without a value
+
+
+# What words ask for.
+
+class View(NamedTuple):
+    """What is told of a run."""
+
+    begin: int = 0
+    end: int = 2**63
+    processes: frozenset = frozenset()
+    only: Optional[str] = None
+    processor: bool = False
+    entries: bool = False
+    source: bool = False
+    names: bool = False
+    random: int = 63
+
+
+def asked(words):
+    """The words that are no flags, and the flags, each with its values: one stands after its flag, or after an equals sign. A switch has none."""
+    left, names, flags = iter([part for word in words for part in word.split("=")]), [], {}
+    for it in left:
+        if it.startswith("--"):
+            flags.setdefault(it[2:], []).extend([] if it[2:] in SWITCHES else [next(left)])
+        else:
+            names.append(it)
+    return names, flags
+
+
+def view_of(flags):
+    number = lambda flag, other: int(flags[flag][-1]) if flag in flags else other  # noqa: E731
+    switches = (it in flags for it in ("processor", "entries", "source", "names"))
+    return View(number("from", 0), number("to", 2**63), frozenset(map(int, flags.get("process", ()))), flags.get("only", [None])[-1], *switches, number("random", 63))
 
 
 # Texts to a run.
 
+def lines_of(text):
+    """Of each line of a source where it begins and ends in the image, its labels, and the name and the operands of its statement."""
+    at = 0
+    for line in text.splitlines():
+        labels, said = re.fullmatch(r"((?:\w+:\s*)*)(.*)", line.split("#")[0].strip()).groups()
+        name, _, rest = said.partition(" ")
+        end = at + {"": 0, ".byte": 1}.get(name, int(rest, 0) if name == ".space" else 4)
+        yield at, end, re.findall(r"\w+", labels), name, rest
+        at = end
+
+
 def image(text):
     """The bytes of a source."""
-    labels, pieces, at = {}, [], 0
-    for line in text.splitlines():
-        line = line.split("#")[0].strip()
-        while match := re.match(r"(\w+):\s*", line):
-            labels[match[1]], line = at, line[match.end():]
-        if line:
-            name, _, rest = line.partition(" ")
-            pieces.append((at, name, rest))
-            at += {".byte": 1}.get(name, int(rest, 0) if name == ".space" else 4)
-    return b"".join(piece(at, name, rest, labels) for at, name, rest in pieces)
+    lines = list(lines_of(text))
+    labels = {it: at for at, _, own, *_ in lines for it in own}
+    return b"".join(piece(at, name, rest, labels) for at, _, _, name, rest in lines if name)
 
 
 def places(text):
     """Of each line of a source where it ends in the image, its number, and the last label that stands on it or before it with its place; of labels at one place the first."""
-    found, at, label = [], 0, None
-    for number, line in enumerate(text.splitlines(), 1):
-        line = line.split("#")[0].strip()
-        while match := re.match(r"(\w+):\s*", line):
-            label, line = label if label and label[1] == at else (match[1], at), line[match.end():]
-        name, _, rest = line.partition(" ")
-        at += {"": 0, ".byte": 1}.get(name, int(rest, 0) if name == ".space" else 4)
-        found.append((at, number, label))
+    found, label = [], None
+    for number, (at, end, own, *_) in enumerate(lines_of(text), 1):
+        if own and (label is None or label[1] != at):
+            label = own[0], at
+        found.append((end, number, label))
     return found
 
 
@@ -68,6 +106,11 @@ def piece(at, name, rest, labels, start=0x40_0000):
         return (labels[rest.strip()] + start if rest.strip() in labels else int(rest, 0) & MASK).to_bytes(4, "little")
     if name in ("syscall", "break"):
         return (encode(name) | int(rest or "0", 0) << 6).to_bytes(4, "little")
+    if name in SYSTEM_WORDS:
+        return SYSTEM_WORDS[name].to_bytes(4, "little")
+    if name in ("mfc0", "mtc0"):
+        (_, to, of), = assemble(f"{name} {rest}", 0).values()
+        return ((0x4080_0000 if name == "mtc0" else 0x4000_0000) | to << 16 | of << 11).to_bytes(4, "little")
     (_, *o), = assemble(re.sub(r"\b[A-Za-z_]\w*$", lambda m: str(labels[m[0]] + start) if m[0] in labels else m[0], f"{name} {rest}"), 0).values()
     if name in BRANCHES:
         o = (*o[:-1], (o[-1] - start - at - 4) // 4)
@@ -78,19 +121,18 @@ def piece(at, name, rest, labels, start=0x40_0000):
     return (0 if name == "nop" else encode(name, *o)).to_bytes(4, "little")
 
 
-def begun(read, policy, given, view, kind=None):
-    """The run of files at its beginning, of this kind where it is to be more than one that is told."""
+def begun(read, policy, given, kind=Hostile, *more):
+    """The run of files at its beginning, with a function from a file's name to its text: on plain pages, or of another kind of run."""
     said = tomllib.loads(read(policy))
-    pages, names = [], [it["name"] for it in said["page"]]
-    for it in said["page"]:
-        whole = image(read(it["source"])) if "source" in it else b""
-        pages.append(whole[4096 * it.get("part", 0):][:4096].ljust(4096, b"\0"))
+    pages, names = said["page"], [it["name"] for it in said["page"]]
+    held = [image(read(it["source"]))[4096 * it.get("part", 0):][:4096] if "source" in it else b"" for it in pages]
     frames = said.get("frames", len(pages))
     rules = [(it["process"], it["address"], it["right"], names.index(it["page"]) if "page" in it else None, it.get("give", False), it.get("until"))
              for it in said.get("rule", [])]
     processes = [(it["start"], it.get("line", 0)) for it in said["process"]]
-    run = (kind or Traced)(processes, pages + [bytes(4096)] * (frames - len(pages)), len(names), frames, rules, said.get("rate", 0), events_of(read(given), names), view["random"], view)
-    run.sources = [(it["source"], it.get("part", 0), places(read(it["source"]))) if "source" in it else None for it in said["page"]]
+    held += [b""] * (frames - len(pages))
+    run = kind(processes, [it.ljust(4096, b"\0") for it in held], len(names), frames, rules, said.get("rate", 0), events_of(read(given), names), *more)
+    run.sources = [(it["source"], it.get("part", 0), places(read(it["source"]))) if "source" in it else None for it in pages]
     return run
 
 
@@ -160,29 +202,31 @@ def writes(name, o):
 class Traced(Processor):
     """A run that is told."""
 
+    passes_idle = False
+
     def __init__(self, *begun):
         *begun, self.view = begun
         self.began, self.lines, self.left, self.is_open = 0, [], [], False
         self.happened, self.called, self.denied = Counter(), Counter(), Counter()
-        super().__init__(*begun)
+        super().__init__(*begun, self.view.random)
 
     # What is told, and what is counted.
 
     def shows(self, p):
-        return not self.view["processes"] or p in self.view["processes"]
+        return not self.view.processes or p in self.view.processes
 
     def tells(self, *kinds):
-        return self.view["only"] in (None, *kinds)
+        return self.view.only in (None, *kinds)
 
     def is_in_view(self):
-        return self.view["from"] <= self.began < self.view["to"]
+        return self.view.begin <= self.began < self.view.end
 
     def tell(self, line):
         if self.is_in_view():
             self.lines.append(line)
 
     def counts(self, *kinds):
-        if self.view["from"] <= self.began and self.view["only"] != "end":  # (what goes unit by unit, up to the run's end, also where `--to` ends before)
+        if self.view.begin <= self.began and self.view.only != "end":  # (what goes unit by unit, up to the run's end, also where `--to` ends before)
             super().counts(*kinds)
 
     def count(self, kind, number=1):
@@ -214,7 +258,7 @@ class Traced(Processor):
 
     def tell_entries(self, time, before):
         """The entries that have gone, and those that are new or otherwise than in a table, process by process."""
-        if not self.view["entries"] or self.view["only"] == "end":
+        if not self.view.entries or self.view.only == "end":
             return
         for p in filter(self.shows, self.processes):
             for q, address in before:
@@ -259,7 +303,7 @@ class Traced(Processor):
     def source_of(self, before, p, address):
         """Where an address stands in its source, by the table before the unit."""
         entry = before["table"].get((p, address & ~4095))
-        page = self.sources[entry.page] if self.view["source"] and entry and entry.page is not None and entry.page < len(self.sources) else None
+        page = self.sources[entry.page] if self.view.source and entry and entry.page is not None and entry.page < len(self.sources) else None
         if page is None:
             return ""
         name, part, lines = page
@@ -273,7 +317,7 @@ class Traced(Processor):
     def word_loaded(self, p, word, r, link=None):
         """The word from which an instruction has loaded, by what the registers held before its unit."""
         name, *o = decode_all(word)
-        if not self.view["source"] or name not in LOADS or o[2] in (26, 27, link):
+        if not self.view.source or name not in LOADS or o[2] in (26, 27, link):
             return ""
         address = (r[o[2]] + signed(o[1], 16) & MASK) & ~3
         value = self.word(p, address)
@@ -285,7 +329,7 @@ class Traced(Processor):
         return self.source_of(before, p, pc) + text
 
     def with_names(self, text):
-        return by_names(text) if self.view["names"] else text
+        return by_names(text) if self.view.names else text
 
     def unit_half(self, p):
         before, q, time = self.looked(), self.processes[p], self.time
@@ -317,7 +361,7 @@ class Traced(Processor):
     def call_text(self, r):
         n, a = r[2], r[4:8]
         words = {1: [f"{a[0] & 255:02X}"], GIVE: [f"{a[0]:08X}", str(a[1]), f"{a[2]:08X}", MODES.get(a[3], str(a[3]))], 7: [str(a[0]), f"{a[1]:08X}"], 8: [f"{a[0]:08X}"]}
-        if n >= UNKNOWN and self.view["source"]:
+        if n >= UNKNOWN and self.view.source:
             return f"  unknown {n}: no call has this number"
         return "  " + " ".join([CALLS[min(n, UNKNOWN)], *words.get(n, [])])
 
@@ -328,25 +372,17 @@ class Traced(Processor):
     # A boundary.
 
     def boundary_half(self, runner):
-        before, lost = self.looked(), 0
+        before, lost_before = self.looked(), self.lost.total()
         self.expire(self.time)
-        due = [it for it in self.events if it[0] <= self.time]
-        self.events = [it for it in self.events if it[0] > self.time]
-        for _, what, *o in due:
-            if what != "key":
-                if self.tells():
-                    words = f" {o[0]}" + (f" {o[1]:08X}" if len(o) > 1 else "")
-                    self.tell(f"{self.time} command {self.command + 1} {what}{words}")
-                self.obey(what, *o)
+        for what, *o in self.commands():
+            if self.tells():
+                words = f" {o[0]}" + (f" {o[1]:08X}" if len(o) > 1 else "")
+                self.tell(f"{self.time} command {self.command + 1} {what}{words}")
+            self.obey(what, *o)
         for line in self.log[before["logged"]:]:
             if self.tells():
                 self.tell(line)
-        characters = [(o[0], byte) for _, what, *o in due if what == "key" for byte in o[1]]
-        for k, (line, byte) in enumerate(characters):
-            if k < 64 and len(self.queues[line]) < 256:
-                self.queues[line].append(byte)
-            else:
-                lost += 1
+        lost = self.lost.total() - lost_before
         self.count("lost", lost)
         if self.tells():
             for line, queue in enumerate(self.queues):
@@ -362,11 +398,11 @@ class Traced(Processor):
 
     def leave(self):
         """The entries are told once, at the first time that is no longer in the window."""
-        if self.view["processor"] and self.view["only"] != "end" and self.time >= self.view["to"] and not self.left:
+        if self.view.processor and self.view.only != "end" and self.time >= self.view.end and not self.left:
             self.left = [f"entries at {self.time}, as Random fell", *self.entries()]
 
     def turn(self):
-        if self.time >= self.view["from"]:  # (what comes before goes by at once)
+        if self.time >= self.view.begin:  # (what comes before goes by at once)
             self.leave()
         self.began, runner = self.time, self.ready[0] if self.ready else None
         self.open()
@@ -381,19 +417,19 @@ class Traced(Processor):
 
     def counted(self):
         """The lines of what was counted; where the end alone is told, of the whole log."""
-        if self.view["only"] == "end":
+        if self.view.only == "end":
             yield f"time {self.time}"
             denied = Counter(rule_of(line) for line in self.log if not is_refused_command(line))
         else:
             n, denied = self.happened, self.denied
-            yield (f"from {self.view['from']} units {n['unit']} idle {n['idle']} switches {n['switch']} calls {n['call']}"
+            yield (f"from {self.view.begin} units {n['unit']} idle {n['idle']} switches {n['switch']} calls {n['call']}"
                    f" denials {n['denial']} copies {n['copy']} lost {n['lost']}")
             yield from (f"call {CALLS[number]} {self.called[number]}" for number in sorted(self.called))
         yield from (f"denied {rule} {times}" for rule, times in denied.items())
 
     def of_the_processor(self):
         """The lines of its buffer where the window ended, of what the processor did, and of its buffer at the end, where they are asked for."""
-        if not self.view["processor"]:
+        if not self.view.processor:
             return
         self.leave()
         yield from self.left
@@ -446,98 +482,54 @@ def rule_of(line):
 
 def traced(read, words):
     """What `dsmon` writes for these words, the first of which is `trace`, with a function from a file's name to its text."""
-    _, policy, given, n, *flags = [part for word in words for part in word.split("=")]
-    switches = ("processor", "entries", "source", "names")
-    view = {"from": 0, "to": 2**63, "processes": set(), "only": None, "random": 63, **{it: f"--{it}" in flags for it in switches}}
-    flags = [it for it in flags if it[2:] not in switches]
-    for flag, value in zip(flags[::2], flags[1::2]):
-        match flag:
-            case "--from" | "--to" | "--random": view[flag[2:]] = int(value)
-            case "--process": view["processes"].add(int(value))
-            case "--only": view["only"] = value
-    run = begun(read, policy, given, view)
+    (_, policy, given, n), flags = asked(words)
+    run = begun(read, policy, given, Traced, view_of(flags))
     run.run(int(n))
     return run.text()
 
 
-def cases(text):
-    """The cases of a file: name, source, and what is expected of a run that is done."""
-    for name, body in zip(*[iter(re.split(r"^== (.*)\n", text, flags=re.M)[1:])] * 2):
-        source, mark, wanted = body.partition("\n--\n")
-        if mark:
-            yield name, source + "\n", wanted
+def ran(read, words):
+    """What it writes for words the first of which is `run`, or none where that takes more turns than the model goes through."""
+    (_, policy, given, n), _ = asked(words)
+    run = begun(read, policy, given)
+    run.run(int(n), MOST_TURNS)
+    return run.text() if run.time >= int(n) or run.has_ended() else None
 
 
-def files_in(folder, **given):
-    """A function from a name to a file's text, or to what is given in its place."""
-    return lambda name: given[name] if name in given else (folder / name).read_text()
+def told(read, words):
+    """Either, or none where the model can't tell."""
+    try:
+        return (traced if words[0] == "trace" else ran)(read, words)
+    except NotQuiet:
+        return None
 
 
-def is_of_a_trace(folder, status, words):
-    """Whether a row is that of a trace; what is told or written beside one, in the rows of `came`, tools/came_model.py knows."""
-    return words[:1] == ["trace"] and status == "0" and folder.split("/")[0] != "came"
+def is_known(it):
+    """Whether a row or a table is of a run or of a trace; what is told beside those, tools/came_model.py knows, and some are written with their programs."""
+    is_run = it.words[0] == "run" and not {word.split("=")[0] for word in it.words if word.startswith("--")} - {"--random"}
+    return (is_run or it.words[0] == "trace") and not it.line.startswith(("came/", "hostile ", "processes/turns "))
 
 
 def rows():
-    """The rows and cases of traces: the name of each, a function to its files, its words, and the text that is expected."""
-    for line in (DATA / "rows").read_text().splitlines():
-        folder, status, text, *words = line.split(" ")
-        if is_of_a_trace(folder, status, words):
-            yield line, files_in(DATA / folder), words, (DATA / folder / text).read_bytes()
-    for line in (DATA / "tables").read_text().splitlines():
-        folder, file, name, *words = line.split(" ")
-        if words[:1] == ["trace"]:
-            for case, source, wanted in cases((DATA / folder / name).read_text()):
-                yield f"{line}: {case}", files_in(DATA / folder, **{file: source}), words, wanted.encode()
+    return [it for it in case_files.rows() if is_known(it) and it.status == 0]
 
 
-def is_as_expected(read, words, wanted):
-    """Whether the model has this text, or can't tell."""
-    try:
-        return traced(read, words) == wanted
-    except NotQuiet:
-        return True
+def tables():
+    return [it for it in case_files.tables() if is_known(it)]
 
 
-def renewed(text, files, words):
-    """The text of a file of cases with what the model has of each, and the names of those that it can't tell. The function makes files of a source."""
-    pieces, untold = re.split(r"^(== .*\n)", text, flags=re.M), []
-    for k in range(2, len(pieces), 2):
-        source, mark, _ = pieces[k].partition("\n--\n")
-        if mark:
-            try:
-                pieces[k] = source + mark + traced(files(source + "\n"), words).decode()
-            except NotQuiet:
-                untold.append(pieces[k - 1][3:-1])
-    return "".join(pieces), untold
-
-
-def write():
-    """Writes the texts of all rows and cases anew."""
-    for line in (DATA / "rows").read_text().splitlines():
-        folder, status, text, *words = line.split(" ")
-        if is_of_a_trace(folder, status, words):
-            (DATA / folder / text).write_bytes(traced(files_in(DATA / folder), words))
-    for line in (DATA / "tables").read_text().splitlines():
-        folder, file, name, *words = line.split(" ")
-        if words[:1] == ["trace"]:
-            path = DATA / folder / name
-            text, untold = renewed(path.read_text(), lambda source: files_in(DATA / folder, **{file: source}), words)
-            path.write_text(text)
-            print("".join(f"{folder} {name}: {case}\n" for case in untold), end="")
-
-
-def main(words):
-    if words == ["--write"]:
-        write()
-        return 0
-    if words == ["--check"]:
-        found = [name for name, *row in rows() if not is_as_expected(*row)]
-        print("\n".join(found) or "trace_model: each row of a trace is as the model has it")
-        return 1 if found else 0
-    sys.stdout.buffer.write(traced(files_in(Path(words[0])), words[1:]))
-    return 0
+def files():
+    """The texts of all rows and tables. What the model can't tell is left as it is."""
+    known = {}
+    for it in rows():
+        key = (it.folder, *asked(it.words)[0]) if it.words[0] == "run" else it.line  # (the start of Random shows nowhere but in a trace)
+        if key not in known:
+            known[key] = told(files_in(it.folder), it.words)
+        if known[key] is not None:
+            yield it.text, known[key]
+    for it in tables():
+        yield it.cases, case_files.with_cases(it.cases.read_text(), lambda source: told(files_in(it.folder, **{it.file: source}), it.words))
 
 
 if __name__ == "__main__":
-    sys.exit(main(sys.argv[1:]))
+    sys.exit(case_files.main(files, traced))

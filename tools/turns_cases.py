@@ -4,21 +4,24 @@
 In each row more processes than there are address spaces take turns, so that numbers run out again and again, while calls
 and commands change entries of processes that have a number, that had one before a flush, and that never had one. Plans and
 inputs are made up by a fixed seed while the model runs, so that most of what is planned is allowed. turns.s, which does
-what plans tell, is written by hand. tools/test_turns_cases.py tests that the files are as this script writes them.
+what plans tell, is written by hand. Each kind of change is met, or nothing is written.
 """
 import random
-from pathlib import Path
+import sys
 
-from case_files import policy_text, write
+import case_files
+from case_files import policy_text
 from hostile_model import Hostile
 from spaces_model import AddressSpaces
 from trace_model import image
 
-DATA = Path(__file__).resolve().parent.parent / "crates" / "rows" / "data" / "processes" / "turns"
+DATA = case_files.DATA / "processes" / "turns"
 START, PLAN = 0x40_0000, 0x40_F000
 IN_A_PAGE, WORDS = 7, 146  # processes that have their plans in one page, and the words of a plan
 OWN, NEXT, GIVEN, FAR = 0x40_1000, 0x40_2000, 0x40_3000, 0x80_1000  # pages of every process
 SPARE, PARKED = 8, 3  # frames for copies, and the most that are parked
+CHANGES = {(verb, kind) for verb in ("give", "take", "grant", "narrow", "revoke", "drop by command", "end") for kind in ("held", "lost", "never")}
+CHANGES |= {("drop", "held"), *((f"{verb} along", kind) for verb in ("take", "revoke") for kind in ("held", "lost"))}  # (who drops is on the processor)
 ROWS = {"70": (70, 0, 45000), "100": (100, 0, 45000), "70_by_the_clock": (70, 3, 30000), "100_by_the_clock": (100, 3, 30000)}
 
 
@@ -35,10 +38,12 @@ def word_of(what, address=0, p=0, to=0, m=0):
 class Made(AddressSpaces, Hostile):
     """A run whose plans and commands are made up on its way."""
 
+    passes_idle = False
+
     def __init__(self, name, count, rate):
         self.rng, self.count = random.Random(name), count
         self.plan, self.input = {}, []
-        self.had, self.flushes, self.kinds = set(), 0, []
+        self.had, self.met = set(), set()  # who had a number, and which changes were met of processes of which kind
         self.begin_spaces()
         self.plans = (count + IN_A_PAGE - 1) // IN_A_PAGE
         pages = 1 + self.plans + count
@@ -65,11 +70,8 @@ class Made(AddressSpaces, Hostile):
         self.take_number(p)
         self.had.add(p)
 
-    def flush(self):
-        self.flushes += 1
-
     def changes(self, verb, p, address):
-        self.kinds.append((verb, self.kind(p)))
+        self.met.add((verb, self.kind(p)))
         super().changes(verb, p, address)
 
     def kind(self, p):
@@ -205,21 +207,18 @@ def plan_text(made):
     return "\n".join([*lines, ""])
 
 
-def made_row(name):
-    """The run of a row."""
-    count, rate, n = ROWS[name]
-    made = Made(name, count, rate)
-    made.run(n)
-    return made
-
-
-def files_of(name, made):
-    """The files of a row."""
-    return {DATA / f"{name}.toml": policy_of(made, name), DATA / f"{name}.s": plan_text(made),
-            DATA / f"{name}.input": "\n".join(["# Written by tools/turns_cases.py.", *made.input, ""]),
-            DATA / name: made.text().decode()}
+def files():
+    met = set()
+    for name, (count, rate, n) in ROWS.items():
+        made = Made(name, count, rate)
+        made.run(n)
+        met |= made.met
+        yield DATA / f"{name}.toml", policy_of(made, name)
+        yield DATA / f"{name}.s", plan_text(made)
+        yield DATA / f"{name}.input", "\n".join(["# Written by tools/turns_cases.py.", *made.input, ""])
+        yield DATA / name, made.text()
+    assert CHANGES <= met, CHANGES - met
 
 
 if __name__ == "__main__":
-    for name in ROWS:
-        write(files_of(name, made_row(name)))
+    sys.exit(case_files.main(files))

@@ -18,49 +18,30 @@ def examples(top):
     for line in Path(top, DATA, "rows").read_text("utf-8").splitlines():
         folder, status, expected, command, *words = line.split(" ")
         if folder in FOLDERS and status == "0" and command in ("run", "trace", "bare"):
-            made = bare(top, folder, words) if command == "bare" else run(top, folder, expected, words)
+            made = example(Path(top, DATA, folder), folder, command == "bare", expected, words)
             # A row of a trace has the flags that the example is about; `--entries` is the page's own.
             if made["name"] not in found or (command == "trace" and ENTRIES not in words):
                 found[made["name"]] = made
     return list(found.values())
 
 
-def run(top, folder, expected, words):
-    """An example that runs a policy, from the words of its row."""
-    place = Path(top, DATA, folder)
-    policy, given, ticks, *flags = words
-    text = (place / policy).read_text("utf-8")
-    sources = [it for it in dict.fromkeys(re.findall(r'source = "([^"]+)"', text)) if (place / it).is_file()]
-    stem = policy.removesuffix(".toml")
-    return named(folder, stem) | {
-        "about": told(place / "README.md").get(stem) or of_a_program(place / f"{stem}.c") or of_a_comment(text),
-        "command": "trace",
-        "policy": text,
+def example(place, folder, is_bare, expected, words):
+    """An example of the bare machine, or one that runs a policy, from the words of its row."""
+    first, *more = words
+    text, stem = (place / first).read_text("utf-8"), Path(first).stem
+    given, ticks, flags = ("", int(more[0]), []) if is_bare else (more[0], ticks_of(place / expected, int(more[1])), more[2:])
+    sources = [first] if is_bare else [it for it in dict.fromkeys(re.findall(r'source = "([^"]+)"', text)) if (place / it).is_file()]
+    return {
+        "name": f"{folder}/{stem}".removeprefix("examples/"),
+        "group": FOLDERS[folder],
+        "about": not is_bare and (told(place / "README.md").get(stem) or of_a_program(place / f"{stem}.c")) or of_a_comment(text),
+        "command": "bare" if is_bare else "trace",
+        "policy": "" if is_bare else text,
         "sources": {it: (place / it).read_text("utf-8") for it in sources},
-        "input": (place / given).read_text("utf-8"),
-        "ticks": ticks_of(place / expected, int(ticks)),
+        "input": (place / given).read_text("utf-8") if given else "",
+        "ticks": ticks,
         "flags": " ".join(it for it in flags if it != ENTRIES),
     }
-
-
-def bare(top, folder, words):
-    """An example of the bare machine, from the words of its row."""
-    source, ticks = words[:2]
-    stem = source.removesuffix(".s")
-    text = Path(top, DATA, folder, source).read_text("utf-8")
-    return named(folder, stem) | {
-        "about": of_a_comment(text),
-        "command": "bare",
-        "policy": "",
-        "sources": {source: text},
-        "input": "",
-        "ticks": int(ticks),
-        "flags": "",
-    }
-
-
-def named(folder, stem):
-    return {"name": f"{folder}/{stem}".removeprefix("examples/"), "group": FOLDERS[folder]}
 
 
 def told(readme):
