@@ -113,8 +113,8 @@ def replayed(program, lines, words=()):
     """Replays a file alone; what it took, by the system's count or by callgrind's."""
     index = "".join(f"grants {FILE} {buffer}\n" for buffer in ("searched", "indexed"))
     with tempfile.TemporaryDirectory() as folder:
-        (Path(folder) / FILE).parent.mkdir(parents=True)
-        for name, text in {"rows": "", "tables": "", "told": "", "parts/index": index, FILE: "\n".join(lines) + "\n"}.items():
+        for name, text in {"rows": "", "tables": "", "told": "", "steps/index": "", "parts/index": index, FILE: "\n".join(lines) + "\n"}.items():
+            (Path(folder) / name).parent.mkdir(parents=True, exist_ok=True)
             (Path(folder) / name).write_text(text)
         before = resource.getrusage(resource.RUSAGE_CHILDREN).ru_utime
         ran = subprocess.run([*words, program], cwd=folder, capture_output=True, text=True)
