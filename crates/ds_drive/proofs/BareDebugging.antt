@@ -1,8 +1,7 @@
 -- Why there is no session over a run on the bare machine, and what it leaves; and how one ended.
 use Rattle.std.proofs.Common.{◌≡◌, inl, inr, ℕ, List, [], subst, sym}
-use Rattle.std.specs.Prelude.{Option, Result, Ok, Err, codes}
+use Rattle.std.specs.Prelude.{Option, Result, Ok, codes}
 use Rattle.clap.specs.Words.{Text}
-use Rattle.ds_asm.specs.declared.fault.SourceFault.{SourceFault}
 use Rattle.ds_policy.specs.declared.command.Character.{Character}
 use Rattle.ds_bare.specs.declared.fault.BareFault.{BareFault}
 use Rattle.ds_bare.specs.declared.fault.BareFault.TheVariants as bare
