@@ -27,6 +27,7 @@ test_hostile_model.py
 """.splitlines()
 OTHERS = """\
 came_model.py --check
+steps_model.py --check
 bare_model.py --check
 bare_cases.py --check
 reading_cases.py --check
