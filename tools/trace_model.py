@@ -507,7 +507,7 @@ def told(read, words):
 def is_known(it):
     """Whether a row or a table is of a run or of a trace; what is told beside those, tools/came_model.py knows, and some are written with their programs."""
     is_run = it.words[0] == "run" and not {word.split("=")[0] for word in it.words if word.startswith("--")} - {"--random"}
-    return (is_run or it.words[0] == "trace") and not it.line.startswith(("came/", "hostile ", "processes/turns "))
+    return (is_run or it.words[0] == "trace") and not it.line.startswith(("came/", "hostile ", "long ", "processes/turns "))
 
 
 def rows():
