@@ -44,10 +44,11 @@ SESSIONS = {
     ),
     "a refill handler": (
         "examples/bare", "--bare handler.s 300", "handler.s", 1,
-        ["break *0x80000000", "continue", "monitor time", "info registers bad cause", "break *0x80000020", "continue", "info registers pc", "monitor tlb", "stepi", "x/i $pc", "info threads", "continue", "continue",
+        ["break *0x80000000", "continue", "monitor time", "info registers bad cause", "break *0x8000001c", "continue", "monitor tlb", "stepi", "stepi", "x/i $pc", "info threads", "continue", "continue",
          "watch *(int*)0x410008", "continue", "monitor time", "x/x 0x410008", "reverse-continue", "reverse-stepi", "monitor time", "delete", "continue", "monitor time", "reverse-continue", "monitor time"],
-        ["Breakpoint 1", "time 76 of 300, goes on", "bad: 0x400094", "cause: 0x8", "Breakpoint 2", "0x80000020", "slot 37 00400000 asid 1 frame 00400000 D V", "lui\ts0,0x41", "user mode", "Breakpoint 1", "Breakpoint 2",
-         "atchpoint 3", "New value = 42", "of 300", "0x410008:\t0x0000002a", "of 300", "time 101 of 300, is over", "No more reverse-execution history", "time 0 of 300"],
+        ["Breakpoint 1", "time 76 of 300, goes on", "0x400094", "cause: 0x8", "Breakpoint 2", "slot 37 00400000 asid 1 frame 00400000 D V", "0x80000020 in ??", "lui\ts0,0x41", "user mode", "Breakpoint 1", "Breakpoint 2",
+         "Old value = 0", "New value = 42", "time 99 of 300, goes on", "0x410008:\t0x0000002a", "Old value = 42", "New value = 0", "time 96 of 300, goes on", "time 101 of 300, is over",
+         "No more reverse-execution history", "time 0 of 300, goes on"],
     ),
     "what is refused": (
         "examples", "hello.toml hello.input 100", "hello.s", 1,
