@@ -15,7 +15,7 @@ const SPACES: u8 = 64;
 
 /// The address space number of each process. Numbers are handed out from 1 to 63 in order; when all
 /// are used up, every process loses its number and the whole buffer is flushed.
-#[derive(Drop)]
+#[derive(Clone, Drop)]
 pub struct Asids {
     numbers: [u8; PLACES],
     next: u8,

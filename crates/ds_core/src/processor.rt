@@ -2,6 +2,7 @@
 
 mod access;
 mod anew;
+mod clone;
 mod coprocessor;
 mod execute;
 mod flow;

@@ -16,7 +16,7 @@ const REVISION: u32 = 0x230;
 
 /// The registers, which contracts see as the record of their words. Random and the requests of
 /// the devices are not kept here, and read 0.
-#[derive(Debug, Drop)]
+#[derive(Clone, Debug, Drop)]
 pub struct Cp0 {
     index: u32,
     entry_lo: u32,

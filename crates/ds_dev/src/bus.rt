@@ -25,6 +25,7 @@ use crate::system::{self, SystemRegister};
 use ds_isa::{Instr, Size};
 use ds_mem::{FRAME_SIZE, Memory, SIZE};
 use ds_pages::{Operation, Page};
+use std::alloc::AllocError;
 use std::marker::Model;
 
 /// The bus, which contracts see as the record of its memory and its devices.
@@ -56,6 +57,22 @@ impl Model for Bus {
     } };
 
     ghost invariant = { λ b. b.asks ≡ devices_ask b.serial b.system.enables b.clock };
+}
+
+/// A clone is the same to contracts. What was known of its memory it finds out anew.
+impl Clone for Bus {
+    ghost is_clone = { λ x y. y ≡ x };
+
+    fn clone(&self) -> Result<Self, AllocError> {
+        Ok(Bus {
+            memory: self.memory.clone()?,
+            memo: Memo::new(),
+            serial: self.serial.clone()?,
+            clock: self.clock.clone()?,
+            system: self.system.clone()?,
+            asks: self.asks,
+        })
+    }
 }
 
 /// Whether a device asks for an interrupt.

@@ -30,7 +30,7 @@ pub(crate) const ENABLE: u32 = 0x1fe8_002c;
 pub(crate) const FLAGS: u32 = 0x1fe8_0030;
 
 /// The clock. Its time is kept modulo 2^17 ticks, a period of every rate.
-#[derive(Debug, Drop)]
+#[derive(Clone, Debug, Drop)]
 pub(crate) struct Clock {
     rate: u8,
     enabled: bool,

@@ -13,6 +13,7 @@ use crate::pages::{self, Pages};
 use ds_isa::Size;
 use ds_mem::{FRAME_SIZE, FRAMES, Memory, SIZE};
 use ds_pages::Page;
+use std::alloc::AllocError;
 use std::marker::Model;
 
 /// The words of a frame.
@@ -46,6 +47,16 @@ impl Model for KnownMemory {
     ghost view = { λ m. m.memory };
 
     ghost invariant = { λ m. m.lent ≡ false → IsKnown m.memory m.pages m.sure };
+}
+
+/// A clone has the bytes. Its pages are made anew, as they are asked for.
+impl Clone for KnownMemory {
+    ghost is_clone = { λ x y. y ≡ x };
+
+    fn clone(&self) -> Result<Self, AllocError> {
+        let memory = self.memory.clone()?;
+        Ok(KnownMemory::new(memory, pages::emptied(&self.pages)?))
+    }
 }
 
 impl KnownMemory {

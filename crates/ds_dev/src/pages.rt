@@ -4,7 +4,7 @@ ghost use Rattle.ds_dev.specs.Inner.Known.{room_of, with_room};
 
 use ds_mem::{FRAMES, OutOfMemory};
 use ds_pages::Page;
-use std::alloc::Global;
+use std::alloc::{AllocError, Global};
 use std::marker::Model;
 
 /// Room for pages of known operations, one for each frame of memory. A bus that is given it
@@ -40,6 +40,14 @@ impl Pages {
         Ok(Pages { rooms })
     }
 
+    /// Room for as many pages, and no page yet.
+    fn emptied(&self) -> Result<Pages, AllocError> {
+        match Pages::new(*self.rooms.allocator()) {
+            Ok(pages) => Ok(pages),
+            Err(_) => Err(AllocError),
+        }
+    }
+
     /// Takes the page of a frame out of its room, if one lies there.
     #[inline(always)]
     fn take(&mut self, frame: usize) -> Option<Box<Page>>
@@ -71,6 +79,14 @@ impl Pages {
                 Err(_) => None,
             },
         }
+    }
+}
+
+/// As many rooms, and no page in them.
+pub(crate) fn emptied(pages: &Option<Pages>) -> Result<Option<Pages>, AllocError> {
+    match pages {
+        Some(pages) => Ok(Some(pages.emptied()?)),
+        None => Ok(None),
     }
 }
 

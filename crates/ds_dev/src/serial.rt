@@ -36,7 +36,7 @@ pub struct Character {
 }
 
 /// The four lines.
-#[derive(Debug, Drop)]
+#[derive(Clone, Debug, Drop)]
 pub(crate) struct SerialLines {
     receiver_interrupts: bool,
     master_scan: bool,

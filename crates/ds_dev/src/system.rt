@@ -13,7 +13,7 @@ use ds_word::bit;
 pub(crate) const ENABLES: u32 = 0x1ff0_0000;
 
 /// The register: its enables, one bit a request.
-#[derive(Debug, Drop)]
+#[derive(Clone, Debug, Drop)]
 pub(crate) struct SystemRegister {
     pub(crate) enables: u8,
 }

@@ -40,6 +40,17 @@ impl Model for Layout {
     ghost view = { λ l. record { lies = l.frames.items; shared = l.shared.items } };
 }
 
+impl Clone for Layout {
+    ghost is_clone = { λ x y. y ≡ x };
+
+    fn clone(&self) -> Result<Self, AllocError> {
+        Ok(Layout {
+            frames: self.frames.clone()?,
+            shared: Vec::from_slice(*self.shared.allocator(), self.shared.as_slice())?,
+        })
+    }
+}
+
 /// So many numbers from 0 on.
 fn numbers(alloc: Global, count: u32) -> Result<Vec<u32>, AllocError>
     ensures { IfOk result (λ numbers. numbers.items ≡ range_with_len 0 count) }

@@ -3,6 +3,7 @@ ghost use Rattle.std.specs.Prelude.{◌≡◌, ◌≢◌, ◌==◌, ◌<◌, ℕ
 ghost use Rattle.ds_grants.specs.Inner.Origins.{Has, of_others, receivers_of, slot_of, AreSeen, AreApart};
 
 use arrayvec::ArrayVec;
+use std::alloc::AllocError;
 use std::marker::Model;
 
 /// How many addresses of a process are told apart: twice as many as it can have entries.
@@ -53,6 +54,20 @@ impl Model for Origins {
     ghost view = { λ o. record { known = o.known.items; overflowed = o.overflowed } };
 
     ghost invariant = { λ o. AreSeen o.places o.known.items × AreApart o.known.items };
+}
+
+impl Clone for Origins {
+    ghost is_clone = { λ x y. y ≡ x };
+
+    fn clone(&self) -> Result<Self, AllocError> {
+        let mut known = ArrayVec::new();
+        known.try_extend_from_slice(self.known.as_slice()).unwrap();
+        Ok(Origins {
+            known,
+            places: self.places,
+            overflowed: self.overflowed,
+        })
+    }
 }
 
 impl Origins {

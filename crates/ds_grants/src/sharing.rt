@@ -24,6 +24,17 @@ impl Model for Sharing {
     ghost view = { λ s. s.origins.items };
 }
 
+impl Clone for Sharing {
+    ghost is_clone = { λ x y. y ≡ x };
+
+    fn clone(&self) -> Result<Self, AllocError> {
+        let alloc = *self.origins.allocator();
+        Ok(Sharing {
+            origins: Vec::from_clones(alloc, self.origins.as_slice())?,
+        })
+    }
+}
+
 impl Sharing {
     /// That of so many processes, none of which has shared anything.
     pub(crate) fn none(alloc: Global, processes: usize) -> Result<Sharing, OutOfMemory>

@@ -7,7 +7,7 @@ use ds_policy::Entry;
 use std::marker::Model;
 
 /// How many entries name each page, by the page's number.
-#[derive(Drop)]
+#[derive(Clone, Drop)]
 pub(crate) struct Tally {
     counts: Vec<u32>,
 }

@@ -1,5 +1,5 @@
 -- Room for what a unit and the commands after it may write.
-use Rattle.std.proofs.Common.{◌≡◌, ℕ, ◌+◌, ◌-◌, ◌<◌, ◌≤◌, Option, sym, ap, subst, arith}
+use Rattle.std.proofs.Common.{◌≡◌, ℕ, ◌+◌, ◌-◌, ◌<◌, ◌≤◌, Option, sym, ap, subst, ◌∙◌, arith}
 use Rattle.std.specs.Prelude.{min}
 use Rattle.std.proofs.Math.Nat.{min-le_left}
 use Rattle.ds_policy.specs.Value.{InputValue}
@@ -11,6 +11,11 @@ use Rattle.ds_monitor.specs.Inner.Kept.{kept_of}
 use Rattle.ds_monitor.specs.Inner.Room.{HasLogRoom, HasRoom, HasBoundaryRoom, HasTurnRoom}
 use Rattle.ds_monitor.specs.declared.monitor.Monitor.{Monitor}
 use Rattle.ds_monitor.proofs.Commanding.{by_more, by_none, fewer_lines}
+use Rattle.ds_refinement.specs.Held.{Held}
+use Rattle.ds_refinement.specs.Inner.Stands.{IsSound}
+use Rattle.ds_kernel.specs.declared.parts.Parts.{Parts}
+use Rattle.ds_kernel.specs.Inner.Parts.{held}
+use Rattle.ds_kernel.specs.Inner.Good.{IsGood, IsOrderly}
 
 -- the room is no matter of time and turns
 pub room_later : (n : ℕ) (m : Monitor) (time : ℕ) (owed : Option Turn) → HasRoom n m → HasRoom n (record m { time = time; owed = owed })
@@ -55,3 +60,13 @@ boundary_room_after old new soon same less r =
     let few : commands_by new.time old.due.commands ≤ count = by_more new.time (old.time + 2) old.due.commands soon in
     let now : commands_by new.time new.due.commands ≡ commands_by new.time old.due.commands = ap (λ (i : InputValue). commands_by new.time i.commands) same in
     fewer_lines (commands_by new.time new.due.commands) count new (omega (arith, few, now)) (less count (fewer_lines (count + 1) (1 + count) old (omega arith) r.log))
+
+-- parts that hold the same are good too, once they have room for a unit
+pub good_again : {L : Type 0} (new old : Parts L) → held new ≡ held old → new.monitor.quiet_until ≡ old.monitor.quiet_until → HasTurnRoom new.monitor → IsGood old → IsGood new
+good_again new old same quiet room good = record {
+  sound = subst IsSound (sym same) good.sound;
+  orderly = subst IsOrderly (sym same) good.orderly;
+  room = λ _. room;
+  owed = λ _. boundary_room new.monitor new.monitor.time new.monitor.owed (omega arith) room;
+  next = quiet ∙ good.next ∙ ap (λ (h : Held). next_due h.kept) (sym same);
+}

@@ -7,6 +7,7 @@ mod backs;
 mod blocks;
 mod boundary;
 mod cause;
+mod clone;
 mod copies;
 mod counts;
 mod devices;

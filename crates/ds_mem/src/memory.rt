@@ -25,7 +25,7 @@ pub const FRAME_SIZE: usize = PAGE_SIZE;
 pub const FRAMES: usize = 2048;
 
 /// The memory, which contracts see as the list of its bytes.
-#[derive(Drop)]
+#[derive(Clone, Drop)]
 pub struct Memory {
     bytes: Vec<u8>,
 }

@@ -1,7 +1,7 @@
 //! The four console texts.
-ghost use Rattle.std.specs.Prelude.{◌≡◌, ◌+◌, ◌<◌, ◌≤◌, ◌++◌, ◌∷◌, [], All, map, slice_set, slice_index_or, vec_len, vec_capacity, true, false};
+ghost use Rattle.std.specs.Prelude.{◌≡◌, ◌+◌, ◌<◌, ◌≤◌, ◌++◌, ◌∷◌, [], All, IfOk, map, slice_set, slice_index_or, vec_len, vec_capacity, true, false};
 
-use std::alloc::Global;
+use std::alloc::{AllocError, Global};
 
 /// The bytes for which room is made on each line where there is none.
 const BYTES_AHEAD: usize = 256;
@@ -13,6 +13,25 @@ pub struct Consoles {
     // So many more bytes need no memory, on whichever lines.
     room: usize,
     ghost roomy: { All (λ v. vec_len v + room ≤ vec_capacity v) texts },
+}
+
+/// A clone has the texts, and no room yet.
+impl Clone for Consoles {
+    ghost use Rattle.ds_monitor.specs.Inner.Consoles.{texts_of};
+
+    ghost is_clone = { λ x y. texts_of y ≡ texts_of x };
+
+    fn clone(&self) -> Result<Self, AllocError> {
+        Ok(Consoles {
+            texts: [
+                copied(&self.texts[0])?,
+                copied(&self.texts[1])?,
+                copied(&self.texts[2])?,
+                copied(&self.texts[3])?,
+            ],
+            room: 0,
+        })
+    }
 }
 
 impl Consoles {
@@ -77,6 +96,13 @@ impl Consoles {
         self.texts[line].push_reserved(byte);
         self.room -= 1;
     }
+}
+
+/// Another text of the same bytes.
+fn copied(text: &Vec<u8>) -> Result<Vec<u8>, AllocError>
+    ensures { IfOk result (λ copy. copy.items ≡ text.now.items) }
+{
+    Vec::from_slice(*text.allocator(), text.as_slice())
 }
 
 /// Makes room on each line, if it can.

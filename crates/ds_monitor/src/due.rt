@@ -6,6 +6,7 @@ ghost use Rattle.ds_monitor.specs.Inner.Coming.{first_time, first_event, first_d
 ghost use Rattle.ds_monitor.specs.Inner.Commands.{commands_by};
 
 use ds_policy::{Character, Events, TimedCommand};
+use std::alloc::AllocError;
 use std::marker::Model;
 
 /// A time to which no run comes.
@@ -31,6 +32,17 @@ impl Model for Due {
     } };
 
     ghost invariant = { λ d. d.taken ≤ length d.events.commands };
+}
+
+impl Clone for Due {
+    ghost is_clone = { λ x y. y ≡ x };
+
+    fn clone(&self) -> Result<Self, AllocError> {
+        Ok(Due {
+            events: self.events.clone()?,
+            taken: self.taken,
+        })
+    }
 }
 
 /// How many of these commands are due at a time, from the first on.

@@ -2,6 +2,7 @@
 ghost use Rattle.std.specs.Prelude.{◌≡◌, ◌++◌, ◌∷◌, [], length, drop, slice_get, not, nat_lt, if◌then◌else◌};
 
 use arrayvec::ArrayVec;
+use std::alloc::AllocError;
 use std::marker::Model;
 
 /// The most characters that wait on a line.
@@ -19,6 +20,16 @@ impl Model for LineQueue {
     ghost Value = { List ℕ };
 
     ghost view = { λ q. q.bytes.items };
+}
+
+impl Clone for LineQueue {
+    ghost is_clone = { λ x y. y ≡ x };
+
+    fn clone(&self) -> Result<Self, AllocError> {
+        let mut bytes = ArrayVec::new();
+        bytes.try_extend_from_slice(self.bytes.as_slice()).unwrap();
+        Ok(LineQueue { bytes })
+    }
 }
 
 impl LineQueue {

@@ -1,5 +1,7 @@
 //! What the monitor keeps.
 
+ghost use Rattle.std.specs.Prelude.{◌≡◌};
+
 use crate::consoles::Consoles;
 use crate::due::Due;
 use crate::line_queue::LineQueue;
@@ -9,6 +11,7 @@ use ds_grants::Grants;
 use ds_pagemap::Turn;
 use ds_procs::Queue;
 use ds_tables::Tables;
+use std::alloc::AllocError;
 
 /// What the monitor keeps beside the processor and its bus. A contract sees it as a `Kept`, which
 /// `kept_of` makes of it.
@@ -45,4 +48,32 @@ pub struct Monitor {
     pub due: Due,
     /// The time before which no boundary has anything to do.
     pub quiet_until: u64,
+}
+
+/// A clone keeps the same, and has room for nothing more yet.
+impl Clone for Monitor {
+    ghost use Rattle.ds_monitor.specs.Inner.Kept.{kept_of};
+
+    ghost is_clone = { λ x y. (kept_of y ≡ kept_of x) × (y.quiet_until ≡ x.quiet_until) };
+
+    fn clone(&self) -> Result<Self, AllocError> {
+        Ok(Monitor {
+            grants: self.grants.clone()?,
+            tables: self.tables.clone()?,
+            spaces: self.spaces.clone()?,
+            seats: Vec::from_clones(*self.seats.allocator(), self.seats.as_slice())?,
+            ready: self.ready.clone()?,
+            queues: Vec::from_clones(*self.queues.allocator(), self.queues.as_slice())?,
+            consoles: self.consoles.clone()?,
+            log: self.log.clone()?,
+            lines: self.lines,
+            time: self.time,
+            rate: self.rate,
+            owed: self.owed,
+            ticked: self.ticked,
+            ends: self.ends,
+            due: self.due.clone()?,
+            quiet_until: self.quiet_until,
+        })
+    }
 }

@@ -5,6 +5,7 @@ ghost use Rattle.ds_pagemap.specs.First.{first_process};
 
 use ds_policy::PolicyProcess;
 use ds_procs::{Call, Process, Standing};
+use std::alloc::AllocError;
 use std::marker::Model;
 
 /// A process while it doesn't run, and its console line. No load of it is late.
@@ -31,6 +32,17 @@ impl Model for Seat {
       standing = s.kept.state;
       line = s.line;
     } };
+}
+
+impl Clone for Seat {
+    ghost is_clone = { λ x y. y ≡ x };
+
+    fn clone(&self) -> Result<Self, AllocError> {
+        Ok(Seat {
+            kept: self.kept,
+            line: self.line,
+        })
+    }
 }
 
 impl Seat {

@@ -27,7 +27,7 @@ pub use digits::address_of;
 pub use fault::EventsFault;
 pub use layout::two_blanks_place;
 pub use list::EventList;
-use std::alloc::Global;
+use std::alloc::{AllocError, Global};
 use std::marker::Model;
 
 /// The latest time at which an event can be due, in ticks, and the most ticks of a run.
@@ -50,6 +50,17 @@ impl Model for Events {
 
     ghost invariant = { λ e.
         IsGoodInput (record { commands = e.commands.items; characters = e.characters }) };
+}
+
+impl Clone for Events {
+    ghost is_clone = { λ x y. y ≡ x };
+
+    fn clone(&self) -> Result<Self, AllocError> {
+        Ok(Events {
+            commands: Vec::from_slice(*self.commands.allocator(), self.commands.as_slice())?,
+            characters: self.characters.clone()?,
+        })
+    }
 }
 
 impl Events {

@@ -6,6 +6,7 @@ ghost use Rattle.ds_policy.specs.Inner.Marks.{no_entry_there};
 
 use crate::grant::{Entry, Grant, Right};
 use arrayvec::ArrayVec;
+use std::alloc::AllocError;
 use std::marker::Model;
 
 /// How many entries a process can have.
@@ -44,6 +45,18 @@ impl Model for Row {
     ghost Value = { List Entry };
 
     ghost view = { λ r. r.entries.items };
+}
+
+impl Clone for Row {
+    ghost is_clone = { λ x y. y ≡ x };
+
+    fn clone(&self) -> Result<Self, AllocError> {
+        let mut entries = ArrayVec::new();
+        entries
+            .try_extend_from_slice(self.entries.as_slice())
+            .unwrap();
+        Ok(Row { entries })
+    }
 }
 
 impl Row {

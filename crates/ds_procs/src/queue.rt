@@ -4,7 +4,7 @@ use arrayvec::ArrayVec;
 use std::marker::Model;
 
 /// Process numbers from 1 to 100, none of them twice. The first one runs.
-#[derive(Debug, Drop)]
+#[derive(Clone, Debug, Drop)]
 pub struct Queue {
     numbers: ArrayVec<u32, 100>,
 }

@@ -41,7 +41,7 @@ ghost use Rattle.ds_refinement.specs.Inner.Written.{KeepsWritten};
 ghost use Rattle.ds_refinement.specs.Runs.{RunsTo, held_goes_on};
 ghost use Rattle.ds_refinement.specs.Inner.Runs.{RunsInTime, RunsWithin};
 ghost use Rattle.ds_station.specs.Faults.{RefusesStep};
-ghost use Rattle.ds_station.specs.Inner.Faults.{IsFaultAfter, IsStartFault};
+ghost use Rattle.ds_station.specs.Inner.Faults.{IsFaultAfter, IsNewFault, IsStartFault};
 ghost use Rattle.ds_station.specs.Inner.Runs.{IsCut};
 ghost use Rattle.ds_station.specs.Inner.Alone.{RunsAlone};
 ghost use Rattle.ds_promise.specs.Quiet.{IsQuiet};
@@ -101,6 +101,16 @@ impl<L: Lookaside> Station<L> {
         let tlb = L::new(start)?;
         let parts = Parts::new(alloc, policy, images, events, tlb)?;
         Ok(Station { parts })
+    }
+
+    /// Another station that holds the same. Refused only where the host has no room for it.
+    pub fn try_clone(&self) -> Result<Self, Fault>
+        ensures held { IfOk result (λ s. s.held ≡ self.now.held) }
+        ensures faults { IfErr result IsNewFault }
+    {
+        Ok(Station {
+            parts: self.parts.try_clone()?,
+        })
     }
 
     /// The program stands at an address of 32 bits.

@@ -10,6 +10,7 @@ use crate::fault::Regions;
 use crate::places::{self, MOST, Places};
 use arrayvec::ArrayVec;
 use ds_mem::Memory;
+use std::alloc::AllocError;
 use std::marker::Model;
 
 /// The processes that may have tables.
@@ -37,6 +38,16 @@ impl Model for Tables {
     ghost view = { λ t. t.rows.items };
 
     ghost invariant = { λ t. ArePlaces t.rows.items };
+}
+
+impl Clone for Tables {
+    ghost is_clone = { λ x y. y ≡ x };
+
+    fn clone(&self) -> Result<Self, AllocError> {
+        let mut rows = ArrayVec::new();
+        rows.try_extend_from_slice(self.rows.as_slice()).unwrap();
+        Ok(Tables { rows })
+    }
 }
 
 impl Tables {

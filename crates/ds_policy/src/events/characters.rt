@@ -52,6 +52,19 @@ impl Model for Characters {
         × AreKeyLines c.taken (drop c.over c.lines.items) c.bytes.items };
 }
 
+impl Clone for Characters {
+    ghost is_clone = { λ x y. y ≡ x };
+
+    fn clone(&self) -> Result<Self, AllocError> {
+        Ok(Characters {
+            lines: Vec::from_slice(*self.lines.allocator(), self.lines.as_slice())?,
+            bytes: self.bytes.clone()?,
+            over: self.over,
+            taken: self.taken,
+        })
+    }
+}
+
 impl Characters {
     /// No characters.
     pub(crate) fn new(alloc: Global) -> Characters
