@@ -20,13 +20,14 @@ sys.path.insert(0, str(Path(__file__).resolve().parent))
 import debug_sessions as sessions  # noqa: E402
 import trace_model  # noqa: E402
 
-# The folder below examples/, the policy, the input, and N.
+# The folder below examples/, the policy, the input, and N. The last is long enough that stations of it are kept.
 RUNS = [
     (".", "hello.toml", "hello.input", 100),
     (".", "denied_store.toml", "denied_store.input", 100),
     (".", "ping_pong.toml", "ping_pong.input", 400),
     (".", "lent_page.toml", "lent_page.input", 300),
     ("labs", "lost_update.toml", "nothing.input", 400),
+    (".", "apart_busy.toml", "apart.input", 40000),
 ]
 SIGNALS = {"1": 11, "2": 11, "3": 11, "4": 10, "5": 10, "8": 12, "9": 5, "10": 4, "11": 4, "12": 8}
 REST, CONTINUE = ("", 5), ("c",)
@@ -35,11 +36,12 @@ REST, CONTINUE = ("", 5), ("c",)
 class Position:
     """What a run has between two turns."""
 
-    def __init__(self, run):
+    def __init__(self, run, before=None):
         self.time, self.runner = run.time, run.ready[0] if run.ready else None
         self.registers = {p: (list(q.r), q.hi, q.lo, q.pc) for p, q in run.processes.items()}
         self.lives = {p: q.state != "Ended" for p, q in run.processes.items()}
-        self.pages = {number: bytes(page) for number, page in run.pages.items()}
+        pages = before.pages if before else {}
+        self.pages = {number: pages[number] if pages.get(number) == page else bytes(page) for number, page in run.pages.items()}
         self.table = {place: entry.page for place, entry in run.table.items() if entry.right != "none"}
         self.consoles = [bytes(it) for it in run.consoles]
         self.log = list(run.log)
@@ -70,7 +72,7 @@ def positions(folder, policy, given, n):
     found = [Position(run)]
     while found[-1].goes_on(n):
         run.turn()
-        found.append(Position(run))
+        found.append(Position(run, found[-1]))
     return found
 
 
@@ -270,7 +272,7 @@ def places(path):
     words = set()
     for one, other in zip(path, path[1:]):
         for (p, page), number in other.table.items():
-            if one.pages[number] != other.pages[number]:
+            if one.pages[number] is not other.pages[number]:
                 words |= {(p, page + at) for at in range(0, 4096, 4) if one.pages[number][at : at + 4] != other.pages[number][at : at + 4]}
     return codes, sorted(words) or [(1, 0x410000)]
 

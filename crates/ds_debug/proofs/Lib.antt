@@ -2,6 +2,9 @@ pub mod Bytes
 pub mod Shown
 pub mod Going
 pub mod Returning
+pub mod Turning
+pub mod Keeping
+pub mod Leaping
 pub mod Acting
 pub mod Watching
 pub mod Exiting

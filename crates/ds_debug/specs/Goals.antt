@@ -1,5 +1,5 @@
 -- What stops a run that goes forward.
-use Rattle.std.specs.Prelude.{ℕ, ◌&&◌, Bool, not, is_some, if◌then◌else◌, List, [], ◌∷◌, slice_index_or, drop, Option, Some, None}
+use Rattle.std.specs.Prelude.{ℕ, ◌&&◌, Bool, is_some, if◌then◌else◌, List, [], ◌∷◌, slice_index_or, drop, Option, Some, None}
 use Rattle.ds_packets.specs.declared.packet.Action.{Action}
 use Rattle.ds_pagemap.specs.Machine.{first}
 use Rattle.ds_refinement.specs.Held.{Held}

@@ -2,6 +2,8 @@
 pub mod Answering
 pub mod Forward
 pub mod Inputs
+pub mod Leaps
+pub mod Past
 pub mod Registers
 pub mod Serving
 pub mod Sessions

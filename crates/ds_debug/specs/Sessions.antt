@@ -1,5 +1,5 @@
 -- A session: what a debugger has asked for so far, and what each packet changes.
-use Rattle.std.specs.Prelude.{codes, ℕ, Bool, false, if◌then◌else◌, List, [], length, Option, Some, None}
+use Rattle.std.specs.Prelude.{codes, ℕ, Bool, false, if◌then◌else◌, List, [], Option, Some, None}
 use Rattle.ds_packets.specs.declared.packet.Packet.{Packet}
 use Rattle.ds_packets.specs.declared.packet.Packet.TheVariants.{StopAt, Look, Go, Break, Unbreak, Watch, Unwatch}
 use Rattle.ds_packets.specs.declared.packet.Who.{Who}

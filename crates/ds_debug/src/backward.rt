@@ -3,6 +3,7 @@ ghost use Rattle.std.specs.Prelude.{◌≡◌, ◌<◌, ◌≤◌, IfErr, IfOk, 
 ghost use Rattle.ds_station.specs.Inner.Faults.{IsNewFault};
 ghost use Rattle.ds_debug.specs.Backward.{back_process, back_reason, back_time, turnless_reason};
 ghost use Rattle.ds_debug.specs.Goals.{goal_with};
+ghost use Rattle.ds_debug.specs.Inner.Past.{FindsFrom};
 ghost use Rattle.ds_debug.specs.Places.{Finds};
 
 use crate::places::{Place, Sought, began_at, or_else, place_after};
@@ -58,6 +59,42 @@ pub(crate) fn find_last<L: Lookaside>(
         place = or_else(found, place);
     }
     Ok(place)
+}
+
+/// The last place that is found on the way from a station to a time, as by `find_last`; the station
+/// stays where it is.
+pub(crate) fn find_from<L: Lookaside>(
+    alloc: Global,
+    station: &Station<L>,
+    until: u64,
+    sought: Sought,
+    actions: &[Option<Action>],
+    breakpoints: &[Breakpoint],
+    watchpoints: &[Watchpoint],
+) -> Result<Option<Place>, Fault>
+    requires limit { until ≤ 1000000000 }
+    requires whole { station.now.held.kept.state.owed ≡ None }
+    requires spent { station.now.held.own.spent ≡ 0 }
+    requires working { station.now.held.own.failed ≡ false }
+    ensures finds { IfOk result (λ place. FindsFrom sought
+        (goal_with actions.now breakpoints.now watchpoints.now) until place station.now.held) }
+    ensures small { IfOk result (λ place. IfSome place (λ p. p.stop.process ≤ 100)) }
+    ensures early { IfOk result (λ place. IfSome place (λ p. p.time ≤ until)) }
+    ensures faults { IfErr result IsNewFault }
+{
+    let mut copy = match station.try_clone() {
+        Ok(copy) => copy,
+        Err(fault) => return Err(fault),
+    };
+    find_last(
+        alloc,
+        &mut copy,
+        until,
+        sought,
+        actions,
+        breakpoints,
+        watchpoints,
+    )
 }
 
 /// To which time a session goes back. Without a place it is the beginning where the last stop was

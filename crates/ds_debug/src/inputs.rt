@@ -1,8 +1,7 @@
 //! What a run begins with, and stations of its runs.
-ghost use Rattle.std.specs.Prelude.{◌≡◌, ◌≤◌, ◌⊎◌, IfErr, IfOk, None, OnOk, false};
-ghost use Rattle.ds_station.specs.Inner.Faults.{IsNewFault};
+ghost use Rattle.std.specs.Prelude.{◌≡◌, ◌≤◌, IfErr, IfOk, None, OnOk, false};
 ghost use Rattle.ds_station.specs.Headline.{Refuses};
-ghost use Rattle.ds_debug.specs.Inputs.{IsAt, IsBeginning, first_state_of};
+ghost use Rattle.ds_debug.specs.Inputs.{IsBeginning, first_state_of};
 ghost use Rattle.ds_debug.specs.Inner.Inputs.{inputs_seen};
 
 use ds_policy::Policy;
@@ -43,29 +42,4 @@ pub(crate) fn station_at_start<'a>(
         limit,
         inputs.random,
     )
-}
-
-/// A station of a run of these for `limit` ticks, at the time at which a run to `time` ends.
-pub(crate) fn station_at<'a>(
-    alloc: Global,
-    inputs: Inputs<'a>,
-    limit: u64,
-    time: u64,
-) -> Result<Station<Indexed<64, 8>>, Fault>
-    requires { time ≤ 1000000000 }
-    ensures faults { IfErr result (λ f. IsNewFault f
-        ⊎ Refuses f (first_state_of (inputs_seen inputs.entry) limit)) }
-    ensures at { IfOk result (λ s. IsAt (inputs_seen inputs.entry) limit time s.held) }
-    ensures whole { IfOk result (λ s. s.held.kept.state.owed ≡ None) }
-    ensures spent { IfOk result (λ s. s.held.own.spent ≡ 0) }
-    ensures working { IfOk result (λ s. s.held.own.failed ≡ false) }
-{
-    let mut station = match station_at_start(alloc, inputs, limit) {
-        Ok(station) => station,
-        Err(refused) => return Err(refused),
-    };
-    match station.run(time) {
-        Ok(()) => Ok(station),
-        Err(fault) => Err(fault),
-    }
 }

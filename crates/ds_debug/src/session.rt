@@ -24,13 +24,14 @@ ghost use Rattle.ds_gdb.specs.Stops.{stop_text};
 ghost use Rattle.ds_debug.specs.Times.{still_asked};
 
 use crate::actions::actions_by;
-use crate::backward::{back_process, back_reason, back_time, find_last};
+use crate::backward::{back_process, back_reason, back_time};
 use crate::exits::exits_next;
 use crate::forward::go;
 use crate::goals::Stop;
 use crate::grown::{lengths_of, push_grown};
-use crate::inputs::{Inputs, station_at, station_at_start};
+use crate::inputs::Inputs;
 use crate::look::{are_there, push_answer, push_report};
+use crate::past::Past;
 use crate::places::{Place, Sought, sought_by};
 use crate::reports::is_going;
 use crate::times::{asked_place, bound_by, earlier, still_asked};
@@ -44,11 +45,9 @@ use std::marker::Model;
 /// A session of a debugger over a station, which stands between two turns of a run.
 #[derive(Drop)]
 pub struct Session<'a> {
-    /// What the run begins with.
-    inputs: Inputs<'a>,
+    /// What the run begins with, up to which time it goes, and stations of it.
+    past: Past<'a>,
     station: Station<Indexed<64, 8>>,
-    /// The run goes up to this time, in ticks.
-    limit: u64,
     /// The process whose registers and memory are looked at.
     process: u32,
     /// Who goes where nobody is named.
@@ -62,16 +61,15 @@ pub struct Session<'a> {
 }
 
 impl<'a> Model for Session<'a> {
-    ghost use Rattle.ds_debug.specs.Inner.Inputs.{inputs_seen};
     ghost use Rattle.ds_debug.specs.Sessions.{SessionState};
     ghost use Rattle.ds_debug.specs.Inner.Sessions.{IsSession};
 
     ghost Value = { SessionState };
 
     ghost view = { λ s. record {
-      inputs = inputs_seen s.inputs;
+      inputs = s.past.inputs;
       held = s.station.held;
-      limit = s.limit;
+      limit = s.past.limit;
       process = s.process;
       going = s.going;
       breakpoints = s.breakpoints;
@@ -81,9 +79,9 @@ impl<'a> Model for Session<'a> {
     } };
 
     ghost invariant = { λ s. IsSession (record {
-      inputs = inputs_seen s.inputs;
+      inputs = s.past.inputs;
       held = s.station.held;
-      limit = s.limit;
+      limit = s.past.limit;
       process = s.process;
       going = s.going;
       breakpoints = s.breakpoints;
@@ -135,14 +133,17 @@ impl<'a> Session<'a> {
             (λ s. IsBeginning (inputs_seen inputs.entry) limit s.held) }
         ensures err { IfErr result (λ f. Refuses f (first_state_of (inputs_seen inputs.entry) limit)) }
     {
-        let station = match station_at_start(alloc, inputs, limit) {
-            Ok(station) => station,
+        let past = match Past::new(alloc, inputs, limit) {
+            Ok(past) => past,
             Err(refused) => return Err(refused),
         };
+        let station = match past.beginning() {
+            Ok(station) => station,
+            Err(fault) => return Err(fault),
+        };
         Ok(Session {
-            inputs,
+            past,
             station,
-            limit,
             process: 1,
             going: Who::All,
             breakpoints: Breakpoints::new(),
@@ -289,7 +290,7 @@ impl<'a> Session<'a> {
             ++ (outputs_text (run_report_text self.now.limit (sight_of self.now) report)
             ++ frame (codes "OK"))) }
     {
-        push_report(alloc, out, &self.station, self.limit, report)?;
+        push_report(alloc, out, &self.station, self.past.limit(), report)?;
         push_frame(out, b"OK")
     }
 
@@ -308,9 +309,11 @@ impl<'a> Session<'a> {
         ensures faults { IfErr result IsNewFault }
         ensures short { IfErr result (λ f. IsShort f self.old.held self.new.held) }
     {
-        let until = bound_by(self.stop_at, self.station.time(), self.limit);
+        let limit = self.past.limit();
+        let until = bound_by(self.stop_at, self.station.time(), limit);
         match go(
             alloc,
+            &mut self.past,
             &mut self.station,
             until,
             actions,
@@ -332,7 +335,7 @@ impl<'a> Session<'a> {
         ensures reason { result
             ≡ came_reason (may_go self.old.limit self.old.held) came }
     {
-        let going = is_going(&self.station, self.limit) && !exits_next(&self.station);
+        let going = is_going(&self.station, self.past.limit()) && !exits_next(&self.station);
         match came {
             Some(stop) => {
                 self.process = stop.process;
@@ -401,37 +404,29 @@ impl<'a> Session<'a> {
         Ok(())
     }
 
-    /// Looks through a run of the same inputs, up to now, for the last place of what is sought.
+    /// Looks through the run, up to now, for the last place of what is sought.
     fn seek(&self, alloc: Global, sought: Sought) -> Result<Option<Place>, Fault>
         ensures finds { IfOk result (λ place. FindsIn self.now.inputs self.now.limit sought
             (goal_of (Some Action.Continue) [] self.now) (looked_until self.now) place) }
         ensures small { IfOk result (λ place. IfSome place (λ p. p.stop.process ≤ 100)) }
         ensures early { IfOk result
             (λ place. IfSome place (λ p. p.time ≤ looked_until self.now)) }
-        ensures faults { self.now.cut ≡ false → IfErr result IsNewFault }
+        ensures faults { IfErr result IsNewFault }
     {
-        let until = earlier(self.station.time(), self.limit);
+        let until = earlier(self.station.time(), self.past.limit());
         let actions = actions_by(alloc, Some(Action::Continue), self.going, &[])?;
-        let mut station = match station_at_start(alloc, self.inputs, self.limit) {
-            Ok(station) => station,
-            Err(refused) => return Err(refused),
-        };
-        match find_last(
+        self.past.seek(
             alloc,
-            &mut station,
             until,
             sought,
             actions.as_slice(),
             self.breakpoints.as_slice(),
             self.watchpoints.as_slice(),
-        ) {
-            Ok(place) => Ok(place),
-            Err(fault) => Err(fault),
-        }
+        )
     }
 
-    /// Runs anew to a time; without one, the session stays where it is.
-    fn go_back_to(&mut self, alloc: Global, time: Option<u64>) -> Result<(), Fault>
+    /// Comes to a time of the run; without one, the session stays where it is.
+    fn go_back_to(&mut self, time: Option<u64>) -> Result<(), Fault>
         requires going { self.old.cut ≡ false }
         requires early { IfSome time (λ t. t ≤ self.old.limit) }
         ensures comes { OnOk result (ComesBack self.old.inputs self.old.limit self.old.held time
@@ -440,8 +435,9 @@ impl<'a> Session<'a> {
         ensures err { OnErr result (self.new ≡ self.old) }
         ensures faults { IfErr result IsNewFault }
     {
+        let _limit = self.past.limit();
         match time {
-            Some(time) => match station_at(alloc, self.inputs, self.limit, time) {
+            Some(time) => match self.past.at(time) {
                 Ok(station) => {
                     self.station = station;
                     Ok(())
@@ -450,6 +446,14 @@ impl<'a> Session<'a> {
             },
             None => Ok(()),
         }
+    }
+
+    /// Keeps stations of the run on the way to now.
+    fn approach(&mut self)
+        ensures { self.new ≡ self.old }
+    {
+        let until = earlier(self.station.time(), self.past.limit());
+        self.past.approach(until);
     }
 
     /// Looks at a process from now on.
@@ -486,13 +490,13 @@ impl<'a> Session<'a> {
         ensures inputs { self.new.inputs ≡ self.old.inputs }
     {
         let time = self.station.time();
-        let until = earlier(time, self.limit);
+        let until = earlier(time, self.past.limit());
         let found = match self.seek(alloc, sought) {
             Ok(found) => found,
             Err(fault) => return Err(fault),
         };
         let place = asked_place(sought, self.stop_at, until, process, found);
-        match self.go_back_to(alloc, back_time(sought, place)) {
+        match self.go_back_to(back_time(sought, place)) {
             Ok(()) => {}
             Err(fault) => return Err(fault),
         }
@@ -515,6 +519,7 @@ impl<'a> Session<'a> {
         if self.cut {
             return Err(Fault::Failed);
         }
+        self.approach();
         let process = self.process_going_back();
         self.return_by(alloc, sought_by(action, process), process, out)
     }

@@ -1,4 +1,4 @@
-use Rattle.std.proofs.Common.{◌≡◌, ◌-◌, None, false}
+use Rattle.std.proofs.Common.{◌≡◌, ◌+◌, ◌-◌, None, false}
 use Rattle.ds_refinement.specs.Real.{RealPath}
 use Rattle.ds_refinement.specs.Inner.Runs.{RunsWithin}
 use Rattle.ds_debug.specs.Forward.{HasPassed}
@@ -7,14 +7,15 @@ use Rattle.ds_debug.proofs.forward.go.Given as goal
 
 -- so far the run has passed without a stop, and stands between two turns
 abbrev pub invariant-loop-alloc : goal.invariant-loop-alloc
-invariant-loop-alloc g l = record {
+invariant-loop-alloc l = record {
   passed : HasPassed (goal_with l.actions l.breakpoints l.watchpoints) l.n l.fn.station.held l.station.held;
   path : RealPath l.fn.station.held l.station.held;
   within : RunsWithin l.n l.fn.station.held l.station.held;
   whole : l.station.held.kept.state.owed ≡ None;
   spent : l.station.held.own.spent ≡ 0;
   working : l.station.held.own.failed ≡ false;
+  same : l.past ≡ l.fn.past;
 }
 
 abbrev pub decreases-loop-alloc : goal.decreases-loop-alloc
-decreases-loop-alloc g l = l.n - l.station.held.kept.state.time
+decreases-loop-alloc l = (l.n - l.station.held.kept.state.time) + (l.n + 32768 - l.leap_at)

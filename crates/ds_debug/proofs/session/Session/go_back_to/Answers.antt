@@ -1,6 +1,5 @@
 use Rattle.std.proofs.Common.{ℕ, ◌≤◌, Option, sym, subst}
 use Rattle.std.specs.Prelude.{IfSome}
-use Rattle.ds_debug.specs.Inner.Inputs.{inputs_seen}
 use Rattle.ds_debug.specs.Sessions.{SessionState}
 use Rattle.ds_debug.proofs.Returning.{reached_at}
 use Rattle.ds_debug.proofs.session.Session.go_back_to.Goals as goal
@@ -15,5 +14,5 @@ invariant_of-self c =
       whole = c.in-Ok.ensures.whole;
       spent = λ going. c.in-Ok.ensures.spent;
       working = λ going. c.in-Ok.ensures.working;
-      reached = λ going. reached_at (inputs_seen c.self.inside.inputs) c.self.inside.limit c.in-Some.time c.in-Ok.station.held (subst (λ (s : SessionState). c.in-Some.time ≤ s.limit) (sym c.self.view_is) early) c.in-Ok.ensures.at;
+      reached = λ going. reached_at c.self.inside.past.inputs c.self.inside.past.limit c.in-Some.time c.in-Ok.station.held (subst (λ (s : SessionState). c.in-Some.time ≤ s.limit) (sym c.self.view_is) early) c.in-Ok.ensures.at;
     }

@@ -1,0 +1,121 @@
+//! A run that goes forward by blocks, where nothing but a denial can stop it.
+ghost use Rattle.std.specs.Prelude.{◌≡◌, ◌≤◌, IfSome, None, false, true};
+ghost use Rattle.ds_refinement.specs.Real.{RealPath};
+ghost use Rattle.ds_refinement.specs.Inner.Runs.{RunsWithin};
+ghost use Rattle.ds_debug.specs.Forward.{HasPassed};
+ghost use Rattle.ds_debug.specs.Goals.{goal_with};
+ghost use Rattle.ds_debug.specs.Inner.Inputs.{IsReached};
+ghost use Rattle.ds_debug.specs.Inner.Leaps.{IsFree, IsFurther, Leaps, is_calm};
+
+use crate::past::Past;
+use crate::times::earlier;
+use ds_gdb::{Breakpoint, Watchpoint};
+use ds_packets::Action;
+use ds_station::Station;
+use ds_tlb::{Indexed, Lookaside};
+
+/// How many ticks the first of some leaps takes, and how many go by turns before leaps are tried again.
+pub(crate) const SHORT: u64 = 1 << 15;
+
+/// How many ticks a leap takes at most.
+const LONG: u64 = 1 << 22;
+
+/// Whether a process goes on up to a stop, or stays as it is.
+fn is_calm(action: Option<Action>) -> bool
+    ensures { result ≡ is_calm action }
+{
+    match action {
+        None | Some(Action::Continue) => true,
+        Some(Action::Step) | Some(Action::Range { .. }) => false,
+    }
+}
+
+/// Whether no process takes steps, and there is no breakpoint and no watch.
+fn is_free(
+    actions: &[Option<Action>],
+    breakpoints: &[Breakpoint],
+    watchpoints: &[Watchpoint],
+) -> bool
+    ensures { result ≡ true → IsFree (goal_with actions.now breakpoints.now watchpoints.now) }
+{
+    breakpoints.is_empty()
+        && watchpoints.is_empty()
+        && actions.iter().all(|action| is_calm(*action))
+}
+
+/// Whether a station came further up to a time, with nothing new in the log, and somebody has not ended.
+fn is_further<L: Lookaside>(old: &Station<L>, new: &Station<L>, n: u64) -> bool
+    ensures { result ≡ true → IsFurther n old.now.held new.now.held }
+{
+    if new.time() <= old.time() || n < new.time() {
+        return false;
+    }
+    if old.log().len() < new.log().len() {
+        return false;
+    }
+    new.first_unended().is_some()
+}
+
+/// The station so many ticks later, or shortly before `n`, if nothing came to the log, and somebody has
+/// not ended then.
+fn leaped<L: Lookaside>(station: &Station<L>, n: u64, ticks: u64) -> Option<Station<L>>
+    requires limit { n ≤ 1000000000 }
+    requires spent { station.now.held.own.spent ≡ 0 }
+    requires working { station.now.held.own.failed ≡ false }
+    ensures { IfSome result (λ s. Leaps n station.now.held s.held) }
+{
+    let until = earlier(station.time().saturating_add(ticks), n.saturating_sub(2));
+    if until <= station.time() {
+        return None;
+    }
+    let mut ahead = match station.try_clone() {
+        Ok(ahead) => ahead,
+        Err(_) => return None,
+    };
+    match ahead.run(until) {
+        Ok(()) => {}
+        Err(_) => return None,
+    }
+    if is_further(station, &ahead, n) {
+        Some(ahead)
+    } else {
+        None
+    }
+}
+
+/// Goes on with a run for `n` by leaps, each twice as long as the one before it, where nothing but a
+/// denial can stop it, as long as nothing comes to the log. Stations on the way are kept in the past.
+pub(crate) fn leap<'a>(
+    past: &mut Past<'a>,
+    station: &mut Station<Indexed<64, 8>>,
+    n: u64,
+    actions: &[Option<Action>],
+    breakpoints: &[Breakpoint],
+    watchpoints: &[Watchpoint],
+)
+    requires limit { n ≤ past.old.limit }
+    requires reached { IsReached past.old.inputs past.old.limit station.old.held }
+    requires whole { station.old.held.kept.state.owed ≡ None }
+    requires spent { station.old.held.own.spent ≡ 0 }
+    requires working { station.old.held.own.failed ≡ false }
+    ensures past { past.new ≡ past.old }
+    ensures later { station.old.held.kept.state.time ≤ station.new.held.kept.state.time }
+    ensures passed { HasPassed (goal_with actions.now breakpoints.now watchpoints.now) n
+        station.old.held station.new.held }
+    ensures within { RunsWithin n station.old.held station.new.held }
+    ensures path { RealPath station.old.held station.new.held }
+    ensures whole { station.new.held.kept.state.owed ≡ None }
+    ensures spent { station.new.held.own.spent ≡ 0 }
+    ensures working { station.new.held.own.failed ≡ false }
+{
+    let _limit = past.limit();
+    if !is_free(actions, breakpoints, watchpoints) {
+        return;
+    }
+    let mut ticks = SHORT;
+    while let Some(ahead) = leaped(station, n, ticks) {
+        *station = ahead;
+        past.keep(station);
+        ticks = earlier(ticks.saturating_add(ticks), LONG);
+    }
+}
