@@ -5,6 +5,7 @@ use Rattle.ds_word.specs.ResultBinding.{◌>>=◌}
 use Rattle.ds_asm.specs.Lines.{Line, line_of}
 use Rattle.ds_asm.specs.declared.cause.Cause.{Cause}
 use Rattle.ds_asm.specs.declared.fault.SourceFault.{SourceFault}
+use Rattle.ds_asm.specs.declared.syntax.SyntaxCause.{SyntaxCause}
 use Rattle.ds_asm.specs.Assembly.{fault_at, at_line, Labels, Layout, empty_layout, label_address, laid_line, laid_lines, line_bytes, bytes_from, lines_of, assembled}
 use Rattle.ds_asm.specs.Faults.{size_in, fault_in, labels_past, layout_past, first_faults, second_faults, faults_by, all_faults}
 use Rattle.ds_asm.specs.Inner.Faults.{BeginsWith}
@@ -125,7 +126,7 @@ pub refused_first : (text : List ℕ) (faults : List SourceFault) → faults ≡
 refused_first text faults all some = refused_by (laid_lines 1 empty_layout (lines_of text)) (lines_of text) faults refl all some
 
 -- labels that are looked up alike give the same faults
-module _ (f g : List ℕ → Option ℕ) (alike : (at : ℕ) (x : Option Line) → line_bytes f at x ≡ line_bytes g at x) where
+module _ (f g : List ℕ → Option ℕ) (alike : (at : ℕ) (x : Result Line SyntaxCause) → line_bytes f at x ≡ line_bytes g at x) where
   pub second_alike : (n at : ℕ) (lines : List (List ℕ)) → second_faults n f at lines ≡ second_faults n g at lines
   second_alike n at [] = refl
   second_alike n at (line ∷ lines) =

@@ -11,6 +11,7 @@ use Rattle.ds_asm.specs.Operands.{Instruction, TargetLabel, Nowhere, BranchTo, J
 use Rattle.ds_asm.specs.Lines.{Statement, Encoded, WordNumber, WordLabel, Byte, Space, Line, line_of}
 use Rattle.ds_asm.specs.declared.cause.Cause.{Cause}
 use Rattle.ds_asm.specs.declared.fault.SourceFault.{SourceFault}
+use Rattle.ds_asm.specs.declared.syntax.SyntaxCause.{SyntaxCause}
 use Rattle.ds_asm.specs.Faults.{optional_size, size_in}
 use Rattle.ds_asm.specs.Assembly.{at_line, origin, most_bytes, statement_size, cause_at, Layout, labelled, sized_by, sized, laid_line, laid_lines, resolved, known, word_bytes, statement_bytes, optional_bytes, line_bytes, bytes_from, label_address, empty_layout, lines_of, assembled}
 
@@ -47,9 +48,9 @@ optional_more : (at : ℕ) (s : Option Statement) (size : ℕ) → at ≤ 65536 
 optional_more at None size few h = let same : at ≡ size = cc in (omega arith, omega arith)
 optional_more at (Some s) size few h = sized_more (cause_at at s) (at + statement_size s) size h
 
-pub laid_size : (m next : Layout) (x : Option Line) → m.size ≤ 65536 → laid_line x m ≡ Ok next → (next.size ≡ m.size + size_in x) × (next.size ≤ 65536)
-laid_size m next None few h = cc
-laid_size m next (Some line) few h =
+pub laid_size : (m next : Layout) (x : Result Line SyntaxCause) → m.size ≤ 65536 → laid_line x m ≡ Ok next → (next.size ≡ m.size + size_in x) × (next.size ≤ 65536)
+laid_size m next (Err cause) few h = cc
+laid_size m next (Ok line) few h =
     let (labels, a, b) = bind_ok (labelled m.size line.label m.labels) _ next h in
     let (size, c, d) = bind_ok (sized m.size line.statement) (λ size. Ok (record { labels = labels; size = size })) next b in
     let same : size ≡ next.size = (let e : record { labels = labels; size = size } ≡ next = cc in ap (λ (l : Layout). l.size) e) in
@@ -61,9 +62,9 @@ optional_length : (find : List ℕ → Option ℕ) (at : ℕ) (s : Option Statem
 optional_length find at None more h = let e : [] ≡ more = cc in sym (ap (λ (xs : List ℕ). length xs) e)
 optional_length find at (Some s) more h = statement_length find at s more h
 
-pub line_length : (find : List ℕ → Option ℕ) (at : ℕ) (x : Option Line) (more : List ℕ) → line_bytes find at x ≡ Ok more → length more ≡ size_in x
-line_length find at None more h = let e : [] ≡ more = cc in sym (ap (λ (xs : List ℕ). length xs) e)
-line_length find at (Some line) more h = optional_length find at line.statement more h
+pub line_length : (find : List ℕ → Option ℕ) (at : ℕ) (x : Result Line SyntaxCause) (more : List ℕ) → line_bytes find at x ≡ Ok more → length more ≡ size_in x
+line_length find at (Err cause) more h = let e : [] ≡ more = cc in sym (ap (λ (xs : List ℕ). length xs) e)
+line_length find at (Ok line) more h = optional_length find at line.statement more h
 
 pub bytes_fit : (n : ℕ) (find : List ℕ → Option ℕ) (m last : Layout) (bytes out : List ℕ) (lines : List (List ℕ)) → length bytes ≡ m.size → m.size ≤ 65536
     → laid_lines n m lines ≡ Ok last → bytes_from n find bytes lines ≡ Ok out → length out ≤ 65536
@@ -93,9 +94,9 @@ module _ (f g : List ℕ → Option ℕ) (alike : (name : List ℕ) → f name �
   optional_alike at None = refl
   optional_alike at (Some s) = statement_alike at s
 
-  pub line_alike : (at : ℕ) (x : Option Line) → line_bytes f at x ≡ line_bytes g at x
-  line_alike at None = refl
-  line_alike at (Some line) = optional_alike at line.statement
+  pub line_alike : (at : ℕ) (x : Result Line SyntaxCause) → line_bytes f at x ≡ line_bytes g at x
+  line_alike at (Err cause) = refl
+  line_alike at (Ok line) = optional_alike at line.statement
 
   through_ok : {A B : Type 0} (r : Result A SourceFault) (p q : A → Result B SourceFault) → ((x : A) → p x ≡ q x) → (r >>= p) ≡ (r >>= q)
   through_ok (Ok x) p q h = h x

@@ -1,4 +1,3 @@
-pub mod Names
 pub mod WrittenForms
 pub mod Pages
 pub mod Places

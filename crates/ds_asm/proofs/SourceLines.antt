@@ -11,6 +11,7 @@ use Rattle.ds_asm.specs.declared.cause.Stop.TheVariants as stop
 use Rattle.ds_asm.specs.declared.fault.AsmFault.{AsmFault}
 use Rattle.ds_asm.specs.declared.fault.AsmFault.TheVariants as asm
 use Rattle.ds_asm.specs.declared.fault.SourceFault.{SourceFault}
+use Rattle.ds_asm.specs.declared.syntax.SyntaxCause.{SyntaxCause}
 use Rattle.ds_asm.specs.Assembly.{at_line, without_empty_last, lines_of, origin, Labels, label_address, Layout, labelled, sized, laid_line, laid_lines, line_bytes, bytes_from}
 use Rattle.ds_asm.specs.Inner.Assembling.{Fails, Refuses, stopped_at}
 use Rattle.ds_asm.specs.Lines.{Line, line_of}
@@ -99,7 +100,7 @@ pub labelled_new : (at : ℕ) (label : Option (List ℕ)) (name : List ℕ) (lab
 labelled_new at label name labels p q = rw (p, q) refl
 
 -- a line whose label and statement are good is
-pub line_laid : (at after : ℕ) (x : Option Line) (line : Line) (l : Layout) (labels : Labels) (size : ℕ) → x ≡ Some line → at ≡ l.size → labelled at line.label l.labels ≡ Ok labels
+pub line_laid : (at after : ℕ) (x : Result Line SyntaxCause) (line : Line) (l : Layout) (labels : Labels) (size : ℕ) → x ≡ Ok line → at ≡ l.size → labelled at line.label l.labels ≡ Ok labels
     → after ≡ l.size → sized after line.statement ≡ Ok size → laid_line x l ≡ Ok (record { labels = labels; size = size })
 line_laid at after x line l labels size p e q f r =
     let q2 = subst (λ (k : ℕ). labelled k line.label l.labels ≡ Ok labels) e q in

@@ -13,13 +13,14 @@ use Rattle.ds_asm.specs.declared.cause.Cause.TheVariants.{Syntax, DoubleLabel, O
 use Rattle.ds_asm.specs.declared.fault.SourceFault.{SourceFault}
 use Rattle.ds_asm.specs.declared.fault.SourceFault.TheVariants as fault
 use Rattle.ds_asm.specs.declared.number.Bounds.{Bounds}
+use Rattle.ds_asm.specs.declared.syntax.SyntaxCause.{SyntaxCause}
 use Rattle.ds_asm.specs.Numbers.{out_of_range, as_word}
 use Rattle.ds_asm.specs.Operands.{Instruction, TargetLabel, Nowhere, BranchTo, JumpTo, with_value}
 use Rattle.ds_asm.specs.Lines.{Statement, Encoded, WordNumber, WordLabel, Byte, Space, Line, line_of}
 
 -- the refusal of line n for a cause
 abbrev pub fault_at : ℕ → Cause → SourceFault
-fault_at n Syntax = fault.Syntax n
+fault_at n (Syntax cause) = fault.Syntax n
 fault_at n DoubleLabel = fault.DoubleLabel n
 fault_at n (OutOfRange b) = fault.Range n
 fault_at n NotAligned = fault.Range n
@@ -131,9 +132,9 @@ sized at None = Ok at
 sized at (Some s) = sized_by (at + statement_size s) (cause_at at s)
 
 -- the layout with what a line says, which is none where it has no meaning
-abbrev pub laid_line : Option Line → Layout → Result Layout Cause
-laid_line None l = Err Syntax
-laid_line (Some line) l = labelled l.size line.label l.labels >>= (λ labels. sized l.size line.statement >>= (λ size. Ok (record { labels = labels; size = size })))
+abbrev pub laid_line : Result Line SyntaxCause → Layout → Result Layout Cause
+laid_line (Err cause) l = Err (Syntax cause)
+laid_line (Ok line) l = labelled l.size line.label l.labels >>= (λ labels. sized l.size line.statement >>= (λ size. Ok (record { labels = labels; size = size })))
 
 -- with lines of which the first is line n
 abbrev pub laid_lines : ℕ → Layout → List (List ℕ) → Result Layout SourceFault
@@ -181,9 +182,9 @@ optional_bytes find at None = Ok []
 optional_bytes find at (Some s) = statement_bytes find at s
 
 -- the bytes of a line; a malformed line has none either, and the first pass has refused it
-abbrev pub line_bytes : (List ℕ → Option ℕ) → ℕ → Option Line → Result (List ℕ) Cause
-line_bytes find at None = Ok []
-line_bytes find at (Some line) = optional_bytes find at line.statement
+abbrev pub line_bytes : (List ℕ → Option ℕ) → ℕ → Result Line SyntaxCause → Result (List ℕ) Cause
+line_bytes find at (Err cause) = Ok []
+line_bytes find at (Ok line) = optional_bytes find at line.statement
 
 -- the bytes with those of lines of which the first is line n
 abbrev pub bytes_from : ℕ → (List ℕ → Option ℕ) → List ℕ → List (List ℕ) → Result (List ℕ) SourceFault

@@ -31,6 +31,14 @@ without_back_blanks text = take (length text - suffix_len is_blank text) text
 abbrev pub trimmed : List ℕ → List ℕ
 trimmed text = without_back_blanks (without_front_blanks text)
 
+-- what stands before the first blank
+abbrev pub first_word : List ℕ → List ℕ
+first_word text = before_first is_blank text
+
+-- what stands after the first word of a text and its blanks
+abbrev pub after_word : List ℕ → List ℕ
+after_word text = without_front_blanks (drop (position_or_len is_blank text) text)
+
 -- what stands before the first of these characters, or everything
 abbrev pub until : ℕ → List ℕ → List ℕ
 until c text = before_first (λ b. b == c) text

@@ -4,13 +4,14 @@ use Rattle.std.specs.Option.{option_to_list}
 use Rattle.std.specs.Result.{result_err}
 use Rattle.ds_asm.specs.declared.cause.Cause.{Cause}
 use Rattle.ds_asm.specs.declared.fault.SourceFault.{SourceFault}
+use Rattle.ds_asm.specs.declared.syntax.SyntaxCause.{SyntaxCause}
 use Rattle.ds_asm.specs.Lines.{Statement, Line, line_of}
 use Rattle.ds_asm.specs.Assembly.{Labels, Layout, empty_layout, label_address, statement_size, fault_at, labelled, laid_line, laid_lines, line_bytes, lines_of}
 
 -- the label of a line, if it can be read and has one
-abbrev pub label_in : Option Line → Option (List ℕ)
-label_in None = None
-label_in (Some line) = line.label
+abbrev pub label_in : Result Line SyntaxCause → Option (List ℕ)
+label_in (Err cause) = None
+label_in (Ok line) = line.label
 
 -- how many bytes a statement has, where there is one
 abbrev pub optional_size : Option Statement → ℕ
@@ -18,9 +19,9 @@ optional_size None = 0
 optional_size (Some s) = statement_size s
 
 -- how many bytes a line has; one that can't be read has none
-abbrev pub size_in : Option Line → ℕ
-size_in None = 0
-size_in (Some line) = optional_size line.statement
+abbrev pub size_in : Result Line SyntaxCause → ℕ
+size_in (Err cause) = 0
+size_in (Ok line) = optional_size line.statement
 
 -- the fault of line n, if it has one, by what came of it
 abbrev pub fault_in : {A : Type 0} → ℕ → Result A Cause → List SourceFault
@@ -32,9 +33,9 @@ or_kept (Ok more) labels = more
 or_kept (Err cause) labels = labels
 
 -- the labels after a line, whatever else is wrong in it
-abbrev pub labels_past : Option Line → Layout → Labels
-labels_past None l = l.labels
-labels_past (Some line) l = or_kept (labelled l.size line.label l.labels) l.labels
+abbrev pub labels_past : Result Line SyntaxCause → Layout → Labels
+labels_past (Err cause) l = l.labels
+labels_past (Ok line) l = or_kept (labelled l.size line.label l.labels) l.labels
 
 -- the layout after a good line; after one at fault the image begins anew, so that a wrong place and
 -- too many bytes are told once

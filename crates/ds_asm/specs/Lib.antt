@@ -1,6 +1,6 @@
 pub mod Characters
 pub mod Numbers
-pub mod RegisterNames
+pub mod Registers
 pub mod Forms
 pub mod Operands
 pub mod Lines

@@ -1,15 +1,19 @@
 -- From the text of operands to what an instruction has in their places.
-use Rattle.std.specs.Prelude.{ℕ, ◌+◌, ◌-◌, ◌*◌, ◌%◌, ◌^◌, Bool, true, false, not, ◌&&◌, ◌==◌, nat_lt, if◌then◌else◌, List, [], ◌∷◌, length, take, slice_index, Option, Some, None, option_map}
+use Rattle.std.specs.Prelude.{ℕ, ◌+◌, ◌-◌, ◌*◌, ◌%◌, ◌^◌, Bool, true, false, not, ◌&&◌, ◌==◌, nat_lt, if◌then◌else◌, List, [], ◌∷◌, length, take, slice_index, Option, Some, None, option_map, option_and_then, ok_or, is_some, Result, Ok, Err}
 use Rattle.std.specs.List.{position_or_len}
 use Rattle.std.specs.Option.{option_or}
-use Rattle.ds_word.specs.OptionBinding.{◌>>=◌}
+use Rattle.ds_word.specs.ResultBinding.{◌>>=◌}
 use Rattle.ds_word.specs.Word.{word}
 use Rattle.ds_isa.specs.Fields.{Field, rd, Operand, Register, LinkRegister, SystemRegister, Number, Code, Signed, Branch, Jump, Indexed}
 use Rattle.ds_asm.specs.declared.number.Number as code
 use Rattle.ds_asm.specs.declared.number.Bounds.{Bounds}
-use Rattle.ds_asm.specs.Characters.{is_name, trimmed, until, text_after}
+use Rattle.ds_asm.specs.declared.syntax.SyntaxCause.{SyntaxCause}
+use Rattle.ds_asm.specs.declared.syntax.SyntaxCause.TheVariants as cause
+use Rattle.ds_asm.specs.declared.syntax.Wanted.{Wanted}
+use Rattle.ds_asm.specs.declared.syntax.Wanted.TheVariants as wanted
+use Rattle.ds_asm.specs.Characters.{is_name, first_word, trimmed, until, text_after}
 use Rattle.ds_asm.specs.Numbers.{out_of_range, written_number, as_word}
-use Rattle.ds_asm.specs.RegisterNames.{register_of, system_register_of}
+use Rattle.ds_asm.specs.Registers.{register_of, system_register_of}
 
 -- the label that an instruction goes to, if it does
 pub data TargetLabel : Type 0 where
@@ -56,17 +60,17 @@ with_signed f text i = option_map (λ n. with_number f (2 ^ (f.width - 1)) (2 ^ 
 abbrev pub with_label_operand : (List ℕ → TargetLabel) → List ℕ → Instruction → Option Instruction
 with_label_operand make text i = if is_name text then Some (with_target (make text) i) else None
 
--- what stands before the parenthesis at the end
+-- what stands before the parenthesis at the end, without blanks
 abbrev pub before_close : List ℕ → Option (List ℕ)
-before_close text = if slice_index text (length text - 1) == 41 then Some (take (length text - 1) text) else None
+before_close text = if slice_index text (length text - 1) == 41 then Some (trimmed (take (length text - 1) text)) else None
+
+-- what stands in the parentheses at the end of an address
+abbrev pub base_of : List ℕ → Option (List ℕ)
+base_of text = option_and_then before_close (text_after 40 text)
 
 -- an offset, and in parentheses after it the register of the base
 unfoldable pub with_indexed : Field → Field → List ℕ → Instruction → Option Instruction
-with_indexed base offset text i = do
-  rest ← text_after 40 text
-  inner ← before_close rest
-  register ← register_of (trimmed inner)
-  with_signed offset (trimmed (until 40 text)) (with_value base register i)
+with_indexed base offset text i = option_and_then (λ r. with_signed offset (trimmed (until 40 text)) (with_value base r i)) (option_and_then register_of (base_of text))
 
 -- with what the text of one operand says
 unfoldable pub with_operand : Operand → List ℕ → Instruction → Option Instruction
@@ -98,14 +102,32 @@ has_comma text = nat_lt (position_or_len (λ b. b == 44) text) (length text)
 abbrev pub with_first : Operand → List ℕ → Instruction → Option (Option (List ℕ) × Instruction)
 with_first o text i = option_map (λ next. (text_after 44 text, next)) (with_operand o (trimmed (until 44 text)) i)
 
--- with one operand of what is left of a statement's text, if anything is. A code may be left out, and
--- a link register, where only one operand is left
-abbrev pub with_next : Operand → Option (List ℕ) → Instruction → Option (Option (List ℕ) × Instruction)
-with_next o None i = if is_code o then Some (None, i) else None
-with_next o (Some text) i = if is_link o && not (has_comma text) then Some (Some text, with_value rd 31 i) else with_first o text i
+-- what has to stand in an operand's place
+abbrev pub wanted_by : Operand → Wanted
+wanted_by (Register f) = wanted.Register
+wanted_by (LinkRegister f) = wanted.Register
+wanted_by (SystemRegister f) = wanted.SystemRegister
+wanted_by (Number f) = wanted.Number
+wanted_by (Code f) = wanted.Number
+wanted_by (Signed f) = wanted.Number
+wanted_by (Branch f) = wanted.Label
+wanted_by (Jump f) = wanted.Label
+wanted_by (Indexed base offset) = wanted.Address
 
--- with all operands; nothing may be left
-unfoldable pub with_operands : List Operand → Option (List ℕ) → Instruction → Option Instruction
-with_operands [] None i = Some i
-with_operands [] (Some text) i = None
-with_operands (o ∷ os) left i = with_next o left i >>= (λ p. with_operands os p.0 p.1)
+-- why a text is not what is wanted as operand k, where it is known whether its first word is
+abbrev pub misfit : ℕ → Wanted → Bool → SyntaxCause
+misfit k w fits = if fits then cause.TextAfter k else cause.Operand w k
+
+-- the same of a text in the place of an operand
+abbrev pub operand_misfit : ℕ → Operand → List ℕ → SyntaxCause
+operand_misfit k o text = misfit k (wanted_by o) (is_some (with_operand o (first_word text) (without_operands 0)))
+
+-- with all operands of what is left of a statement's text, if anything is, or why not; the first has
+-- number k. A code may be left out, and a link register, where only one operand is left
+unfoldable pub with_operands : ℕ → List Operand → Option (List ℕ) → Instruction → Result Instruction SyntaxCause
+with_operands k [] None i = Ok i
+with_operands k [] (Some text) i = Err cause.TooMany
+with_operands k (o ∷ os) None i = if is_code o then with_operands k os None i else Err (operand_misfit k o [])
+with_operands k (o ∷ os) (Some text) i =
+    if is_link o && not (has_comma text) then with_operands k os (Some text) (with_value rd 31 i)
+    else ok_or (with_first o text i) (operand_misfit k o (trimmed (until 44 text))) >>= (λ p. with_operands (k + 1) os p.0 p.1)

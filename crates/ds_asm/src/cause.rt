@@ -5,6 +5,7 @@ ghost use Rattle.ds_asm.specs.declared.cause.Stop.TheVariants.{Memory, Refused};
 
 use crate::fault::AsmFault;
 use crate::number::Bounds;
+use crate::syntax::SyntaxCause;
 use std::alloc::{AllocError, AllocFailed};
 
 /// Why a line may not stand where it stands. Where several hold, the first in the order of these is
@@ -12,7 +13,7 @@ use std::alloc::{AllocError, AllocFailed};
 #[derive(Clone, Copy, Debug, PartialEq, Eq, Drop)]
 pub enum Cause {
     /// It is neither blank nor a label nor a statement.
-    Syntax,
+    Syntax(SyntaxCause),
     /// Its label stands on an earlier line too.
     DoubleLabel,
     /// A number is not within these bounds.

@@ -1,7 +1,7 @@
 //! Characters of a source, and the parts of a line.
 ghost use Rattle.std.specs.Prelude.{◌≡◌, ◌≤◌, ◌<◌, ◌==◌, ◌||◌, length, map, option_map, take};
 ghost use Rattle.std.specs.List.{list_all, prefix_len, suffix_len, position_or_len, before_first, after_first};
-ghost use Rattle.ds_asm.specs.Characters.{is_blank, is_letter, is_digit, is_name, without_front_blanks, without_back_blanks, trimmed, until, text_after};
+ghost use Rattle.ds_asm.specs.Characters.{is_blank, is_letter, is_digit, is_name, without_front_blanks, without_back_blanks, trimmed, first_word, after_word, until, text_after};
 
 use memchr::memchr;
 
@@ -82,6 +82,22 @@ pub fn trimmed(text: &[u8]) -> &[u8]
     ensures { result.now ≡ trimmed text.now }
 {
     without_back_blanks(without_front_blanks(text))
+}
+
+/// The first word of a text, and what stands after it and its blanks.
+pub fn split_word(text: &[u8]) -> (&[u8], &[u8])
+    ensures word { result.0.now ≡ first_word text.now }
+    ensures after { result.1.now ≡ after_word text.now }
+{
+    let end = word_len(text);
+    (&text[..end], without_front_blanks(&text[end..]))
+}
+
+fn word_len(text: &[u8]) -> usize
+    ensures exact { result ≡ position_or_len is_blank text.now }
+    ensures within { result ≤ length text.now }
+{
+    text.iter().take_while(|c| !is_blank(**c)).count()
 }
 
 /// Where the first character `c` stands, or the text's length.

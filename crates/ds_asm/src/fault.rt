@@ -32,7 +32,7 @@ impl Cause {
         ensures { result ≡ fault_at line self }
     {
         match self {
-            Cause::Syntax => SourceFault::Syntax(line),
+            Cause::Syntax(_) => SourceFault::Syntax(line),
             Cause::DoubleLabel => SourceFault::DoubleLabel(line),
             Cause::OutOfRange(_) | Cause::NotAligned | Cause::Reserved | Cause::OutOfReach => {
                 SourceFault::Range(line)

@@ -126,7 +126,7 @@ fn second_cause<'a>(labels: &Labels<'a>, place: u64, line: &'a [u8]) -> Option<C
     ensures { result
         ≡ result_err (line_bytes (held_address labels.now) place (line_of line.now)) }
 {
-    match line_of(line)?.statement? {
+    match line_of(line).ok()?.statement? {
         Statement::Instruction(instruction) => {
             resolved(labels, u64::from(ORIGIN) + place + 4, &instruction).err()
         }

@@ -3,8 +3,9 @@ ghost use Rattle.std.specs.Prelude.{◌≡◌, ◌*◌, ◌%◌, ◌^◌, ◌-�
 ghost use Rattle.std.specs.List.{find};
 ghost use Rattle.ds_asm.specs.Forms.{form_named};
 ghost use Rattle.ds_asm.specs.Inner.Forms.{forms_with, written_of, field_of, operand_of};
-ghost use Rattle.ds_asm.specs.Operands.{is_code, is_link};
+ghost use Rattle.ds_asm.specs.Operands.{is_code, is_link, wanted_by};
 
+use crate::syntax::Wanted;
 use ds_isa::instruction_table;
 
 /// Where an operand's value stands in a word.
@@ -150,6 +151,19 @@ impl Operand {
         ensures { result ≡ is_link (operand_of self) }
     {
         matches!(self, Operand::LinkRegister)
+    }
+
+    /// What has to stand in its place.
+    pub(crate) fn wanted(self) -> Wanted
+        ensures { result ≡ wanted_by (operand_of self) }
+    {
+        match self {
+            Operand::Register(_) | Operand::LinkRegister => Wanted::Register,
+            Operand::SystemRegister => Wanted::SystemRegister,
+            Operand::Number(_) | Operand::Code | Operand::Signed => Wanted::Number,
+            Operand::Branch | Operand::Jump => Wanted::Label,
+            Operand::Indexed => Wanted::Address,
+        }
     }
 }
 

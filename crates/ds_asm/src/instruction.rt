@@ -1,14 +1,16 @@
 //! From the text of operands to what an instruction has in their places.
-ghost use Rattle.std.specs.Prelude.{◌≡◌, ◌==◌, is_some, option_map, map};
+ghost use Rattle.std.specs.Prelude.{◌≡◌, ◌==◌, ◌+◌, ◌<◌, ◌^◌, is_some, option_map, map, length};
+ghost use Rattle.std.specs.Result.{result_map_both};
 ghost use Rattle.ds_isa.specs.Fields.{rs, imm};
 ghost use Rattle.ds_asm.specs.Inner.Forms.{field_of, operand_of};
-ghost use Rattle.ds_asm.specs.Operands.{without_operands, with_value, with_number, with_target, with_register, with_unsigned, with_signed, with_indexed, with_operand, has_comma, with_first, with_next, with_operands, before_close};
+ghost use Rattle.ds_asm.specs.Operands.{without_operands, with_value, with_number, with_target, with_register, with_unsigned, with_signed, with_indexed, with_operand, has_comma, operand_misfit, with_operands, before_close};
 ghost use Rattle.ds_asm.specs.Inner.Plain.{plain_target, plain_instruction};
 
-use crate::characters::{is_name, split_at_first, trimmed};
+use crate::characters::{is_name, split_at_first, split_word, trimmed};
 use crate::form::{Operand, Place};
 use crate::number::{Bounds, Number, written_number};
 use crate::register::{register_of, system_register_of};
+use crate::syntax::SyntaxCause;
 
 /// The register that links go to.
 const LINK_REGISTER: u32 = 31;
@@ -43,69 +45,44 @@ impl<'a> Instruction<'a> {
         }
     }
 
-    /// With all operands of what is left of the text.
+    /// With all operands of what is left of the text, or why not.
     #[tactic(auto, unfolding(crate::specs::Operands::with_operands))]
     pub(crate) fn with_operands(
         self,
         operands: &[Operand],
         left: Option<&'a [u8]>,
-    ) -> Option<Instruction<'a>>
-        ensures { option_map plain_instruction result
-            ≡ with_operands (map operand_of operands.now) (option_map (λ t. t.now) left.entry)
+    ) -> Result<Instruction<'a>, SyntaxCause>
+        ensures { result_map_both plain_instruction (λ cause. cause) result
+            ≡ with_operands 1 (map operand_of operands.now) (option_map (λ t. t.now) left.entry)
             (plain_instruction self.entry) }
     {
-        match operands {
-            [] => match left {
-                None => Some(self),
-                Some(_) => None,
-            },
-            [operand, more @ ..] => match self.with_next(*operand, left) {
-                Some((after, next)) => next.with_operands(more, after),
-                None => None,
-            },
+        let mut next = self;
+        let mut number = 1u64;
+        let mut rest = operands;
+        let mut left = left;
+        while let [operand, more @ ..] = rest {
+            match left {
+                None if operand.is_code() => {}
+                None => return Err(operand.misfit(number, &[])),
+                Some(text) if operand.is_link() && !has_comma(text) => {
+                    next = next.with_value(Place::Rd, LINK_REGISTER);
+                }
+                Some(text) => {
+                    let (front, after) = split_at_first(b',', text);
+                    let front = trimmed(front);
+                    match next.with_operand(*operand, front) {
+                        Some(with) => next = with,
+                        None => return Err(operand.misfit(number, front)),
+                    }
+                    number += 1;
+                    left = after;
+                }
+            }
+            rest = more;
         }
-    }
-
-    /// With one operand of what is left of the text; and what is left then.
-    fn with_next(
-        self,
-        operand: Operand,
-        left: Option<&'a [u8]>,
-    ) -> Option<(Option<&'a [u8]>, Instruction<'a>)>
-        ensures { option_map (λ p. (option_map (λ t. t.now) p.0, plain_instruction p.1)) result
-            ≡ with_next (operand_of operand) (option_map (λ t. t.now) left.entry)
-            (plain_instruction self.entry) }
-    {
         match left {
-            None => {
-                if operand.is_code() {
-                    Some((None, self))
-                } else {
-                    None
-                }
-            }
-            Some(text) => {
-                if operand.is_link() && !has_comma(text) {
-                    Some((Some(text), self.with_value(Place::Rd, LINK_REGISTER)))
-                } else {
-                    self.with_first(operand, text)
-                }
-            }
-        }
-    }
-
-    fn with_first(
-        self,
-        operand: Operand,
-        text: &'a [u8],
-    ) -> Option<(Option<&'a [u8]>, Instruction<'a>)>
-        ensures { option_map (λ p. (option_map (λ t. t.now) p.0, plain_instruction p.1)) result
-            ≡ with_first (operand_of operand) text.now (plain_instruction self.entry) }
-    {
-        let (front, after) = split_at_first(b',', text);
-        match self.with_operand(operand, trimmed(front)) {
-            Some(next) => Some((after, next)),
-            None => None,
+            None => Ok(next),
+            Some(_) => Err(SyntaxCause::TooMany),
         }
     }
 
@@ -122,20 +99,9 @@ impl<'a> Instruction<'a> {
             Operand::Number(place) => self.with_unsigned(place, text),
             Operand::Code => self.with_unsigned(Place::Code, text),
             Operand::Signed => self.with_signed(text),
-            Operand::Branch => {
-                if is_name(text) {
-                    Some(self.with_target(Target::Branch(text)))
-                } else {
-                    None
-                }
-            }
-            Operand::Jump => {
-                if is_name(text) {
-                    Some(self.with_target(Target::Jump(text)))
-                } else {
-                    None
-                }
-            }
+            Operand::Branch if is_name(text) => Some(self.with_target(Target::Branch(text))),
+            Operand::Jump if is_name(text) => Some(self.with_target(Target::Jump(text))),
+            Operand::Branch | Operand::Jump => None,
             Operand::Indexed => self.with_indexed(text),
         }
     }
@@ -146,8 +112,7 @@ impl<'a> Instruction<'a> {
             ≡ with_indexed rs imm text.now (plain_instruction self.entry) }
     {
         let (offset, after) = split_at_first(b'(', text);
-        let inner = before_close(after?)?;
-        let base = register_of(trimmed(inner))?;
+        let base = register_of(before_close(after?)?)?;
         self.with_value(Place::Rs, base)
             .with_signed(trimmed(offset))
     }
@@ -207,29 +172,49 @@ impl<'a> Instruction<'a> {
 
 impl Operand {
     /// Whether a text may stand in its place.
-    pub fn takes(self, text: &[u8]) -> bool
+    #[tactic(auto, unfolding(crate::specs::Operands::with_operand))]
+    fn takes(self, text: &[u8]) -> bool
         ensures { result ≡ is_some (with_operand (operand_of self) text.now (without_operands 0)) }
     {
-        Instruction::without_operands(0)
-            .with_operand(self, text)
-            .is_some()
+        match self {
+            Operand::Register(_) | Operand::LinkRegister => register_of(text).is_some(),
+            Operand::SystemRegister => system_register_of(text).is_some(),
+            Operand::Number(_) | Operand::Code | Operand::Signed => written_number(text).is_some(),
+            Operand::Branch | Operand::Jump => is_name(text),
+            Operand::Indexed => Instruction::without_operands(0)
+                .with_indexed(text)
+                .is_some(),
+        }
+    }
+
+    /// Why a text does not stand in its place, as the operand of a number.
+    #[cold]
+    fn misfit(self, number: u64, text: &[u8]) -> SyntaxCause
+        ensures { result ≡ operand_misfit number (operand_of self) text.now }
+    {
+        let (word, _) = split_word(text);
+        if self.takes(word) {
+            return SyntaxCause::TextAfter(number);
+        }
+        let wanted = self.wanted();
+        SyntaxCause::Operand { wanted, number }
     }
 }
 
 /// Whether a text has a comma.
-pub fn has_comma(text: &[u8]) -> bool
+fn has_comma(text: &[u8]) -> bool
     ensures { result ≡ has_comma text.now }
 {
     let (_, after) = split_at_first(b',', text);
     after.is_some()
 }
 
-/// What stands before the parenthesis at the end.
+/// What stands before the parenthesis at the end, without blanks.
 pub fn before_close(text: &[u8]) -> Option<&[u8]>
     ensures { option_map (λ t. t.now) result ≡ before_close text.now }
 {
     match text {
-        [inner @ .., b')'] => Some(inner),
+        [inner @ .., b')'] => Some(trimmed(inner)),
         _ => None,
     }
 }

@@ -62,7 +62,10 @@ impl<'a> Layout<'a> {
         ensures left { IfErr result (λ stop. stop ≢ Stop.Memory → (l : assembly.Layout)
             → IsLaid self.old l → Holds self.new.labels (labels_past (line_of line.now) l)) }
     {
-        let line = line_of(line).ok_or(Cause::Syntax)?;
+        let line = match line_of(line) {
+            Ok(line) => line,
+            Err(cause) => return Err(Stop::Refused(Cause::Syntax(cause))),
+        };
         self.add_label(line.label)?;
         self.size = sized(self.size, line.statement)?;
         Ok(())

@@ -1,17 +1,18 @@
 //! What a line says: a label, a statement, both or nothing.
-ghost use Rattle.std.specs.Prelude.{◌≡◌, ◌≤◌, option_map, length};
-ghost use Rattle.std.specs.List.{position_or_len};
-ghost use Rattle.ds_asm.specs.Characters.{is_blank};
-ghost use Rattle.ds_asm.specs.Numbers.{written_number};
-ghost use Rattle.ds_asm.specs.Lines.{mnemonic_of, after_word, number_word, instruction_named, directive_named, statement_named, statement_of, statement_in, with_statement, line_parts, line_of};
+ghost use Rattle.std.specs.Prelude.{◌≡◌, is_some, option_map};
+ghost use Rattle.std.specs.Result.{result_map_both};
+ghost use Rattle.ds_asm.specs.Characters.{first_word};
+ghost use Rattle.ds_asm.specs.Operands.{misfit};
+ghost use Rattle.ds_asm.specs.Lines.{instruction_named, directive_named, wanted_after, directed, statement_of, with_statement, line_parts, line_of};
 ghost use Rattle.ds_asm.specs.Assembly.{bounds_in, cause_at, has_reserved, is_reserved_word, is_word_aligned, statement_size};
 ghost use Rattle.ds_asm.specs.Inner.Plain.{plain_instruction, plain_statement, plain_line};
 
 use crate::cause::Cause;
-use crate::characters::{is_blank, is_name, split_at_first, trimmed, until, without_front_blanks};
+use crate::characters::{is_name, split_at_first, split_word, trimmed, until};
 use crate::form::form_named;
 use crate::instruction::Instruction;
 use crate::number::{Bounds, Number, written_number};
+use crate::syntax::{SyntaxCause, Wanted};
 use ds_isa::{Instr, decode};
 
 /// The most bytes that an image has.
@@ -113,15 +114,15 @@ fn is_reserved_word(word: u32) -> bool
     matches!(decode(word), Instr::Reserved(_))
 }
 
-/// What a line says, up to its comment.
+/// What a line says, up to its comment, or why nothing is read from it.
 #[inline(always)]
 #[tactic(auto, unfolding(crate::specs::Lines::line_of))]
-pub fn line_of(line: &[u8]) -> Option<Line<'_>>
-    ensures { option_map plain_line result ≡ line_of line.now }
+pub fn line_of(line: &[u8]) -> Result<Line<'_>, SyntaxCause>
+    ensures { result_map_both plain_line (λ cause. cause) result ≡ line_of line.now }
 {
     let said = trimmed(until(b'#', line));
     if said.is_empty() {
-        return Some(Line {
+        return Ok(Line {
             label: None,
             statement: None,
         });
@@ -129,75 +130,45 @@ pub fn line_of(line: &[u8]) -> Option<Line<'_>>
     line_parts(said)
 }
 
-fn line_parts(text: &[u8]) -> Option<Line<'_>>
-    ensures { option_map plain_line result ≡ line_parts text.now }
+fn line_parts(text: &[u8]) -> Result<Line<'_>, SyntaxCause>
+    ensures { result_map_both plain_line (λ cause. cause) result ≡ line_parts text.now }
 {
     let (name, after) = split_at_first(b':', text);
     match after {
         None => with_statement(None, text),
-        Some(rest) => {
-            if is_name(name) {
-                with_statement(Some(name), trimmed(rest))
-            } else {
-                None
-            }
-        }
+        Some(rest) if is_name(name) => with_statement(Some(name), trimmed(rest)),
+        Some(_) => Err(SyntaxCause::NotALabel),
     }
 }
 
-fn with_statement<'a>(label: Option<&'a [u8]>, text: &'a [u8]) -> Option<Line<'a>>
-    ensures { option_map plain_line result
+fn with_statement<'a>(label: Option<&'a [u8]>, text: &'a [u8]) -> Result<Line<'a>, SyntaxCause>
+    ensures { result_map_both plain_line (λ cause. cause) result
         ≡ with_statement (option_map (λ t. t.now) label.entry) text.now }
 {
     if text.is_empty() {
-        return Some(Line {
+        return Ok(Line {
             label,
             statement: None,
         });
     }
     let statement = statement_of(text)?;
-    Some(Line {
+    Ok(Line {
         label,
         statement: Some(statement),
     })
 }
 
-fn statement_of(text: &[u8]) -> Option<Statement<'_>>
-    ensures { option_map plain_statement result ≡ statement_of text.now }
+#[tactic(auto, unfolding(crate::specs::Lines::statement_named))]
+fn statement_of(text: &[u8]) -> Result<Statement<'_>, SyntaxCause>
+    ensures { result_map_both plain_statement (λ cause. cause) result ≡ statement_of text.now }
 {
     let (name, after) = split_word(text);
-    let left = if after.is_empty() { None } else { Some(after) };
-    statement_named(name, left)
-}
-
-/// The first word of a text, and what stands after it and its blanks.
-pub fn split_word(text: &[u8]) -> (&[u8], &[u8])
-    ensures word { result.0.now ≡ mnemonic_of text.now }
-    ensures after { result.1.now ≡ after_word text.now }
-{
-    let end = word_len(text);
-    (&text[..end], without_front_blanks(&text[end..]))
-}
-
-fn word_len(text: &[u8]) -> usize
-    ensures exact { result ≡ position_or_len is_blank text.now }
-    ensures within { result ≤ length text.now }
-{
-    text.iter().take_while(|c| !is_blank(**c)).count()
-}
-
-/// The statement of a mnemonic and of what stands after it.
-#[inline(always)]
-#[tactic(auto, unfolding(crate::specs::Lines::statement_named))]
-pub fn statement_named<'a>(name: &[u8], left: Option<&'a [u8]>) -> Option<Statement<'a>>
-    ensures { option_map plain_statement result
-        ≡ statement_named name.now (option_map (λ t. t.now) left.entry) }
-{
     match directive_named(name) {
-        Some(Directive::Word) => word_statement(left?),
-        Some(Directive::Byte) => Some(Statement::Byte(written_number(left?)?)),
-        Some(Directive::Space) => Some(Statement::Space(written_number(left?)?)),
-        None => Some(Statement::Instruction(instruction_named(name, left)?)),
+        Some(directive) => match directive.directed(after) {
+            Some(statement) => Ok(statement),
+            None => Err(directive.misfit(after)),
+        },
+        None => Ok(Statement::Instruction(instruction_named(name, after)?)),
     }
 }
 
@@ -217,26 +188,48 @@ pub fn directive_named(name: &[u8]) -> Option<Directive>
     }
 }
 
-fn word_statement(text: &[u8]) -> Option<Statement<'_>>
-    ensures { option_map plain_statement result ≡ number_word (written_number text.now) text.now }
-{
-    match written_number(text) {
-        Some(number) => Some(Statement::Word(number)),
-        None => {
-            if is_name(text) {
-                Some(Statement::WordOf(text))
-            } else {
-                None
-            }
+impl Directive {
+    /// The statement with this text after it.
+    #[inline(always)]
+    fn directed<'a>(self, text: &'a [u8]) -> Option<Statement<'a>>
+        ensures { option_map plain_statement result ≡ directed self text.now }
+    {
+        match (self, written_number(text)) {
+            (Directive::Word, Some(number)) => Some(Statement::Word(number)),
+            (Directive::Word, None) if is_name(text) => Some(Statement::WordOf(text)),
+            (Directive::Byte, Some(number)) => Some(Statement::Byte(number)),
+            (Directive::Space, Some(number)) => Some(Statement::Space(number)),
+            _ => None,
         }
+    }
+
+    /// Why a text does not stand after it.
+    #[cold]
+    fn misfit(self, text: &[u8]) -> SyntaxCause
+        ensures { result ≡ misfit 1 (wanted_after self) (is_some (directed self (first_word text.now))) }
+    {
+        let (word, _) = split_word(text);
+        if self.directed(word).is_some() {
+            return SyntaxCause::TextAfter(1);
+        }
+        let wanted = match self {
+            Directive::Word => Wanted::NumberOrLabel,
+            Directive::Byte | Directive::Space => Wanted::Number,
+        };
+        SyntaxCause::Operand { wanted, number: 1 }
     }
 }
 
 /// The instruction of a mnemonic and of what stands after it.
-fn instruction_named<'a>(name: &[u8], left: Option<&'a [u8]>) -> Option<Instruction<'a>>
-    ensures { option_map plain_instruction result
-        ≡ instruction_named name.now (option_map (λ t. t.now) left.entry) }
+fn instruction_named<'a>(name: &[u8], text: &'a [u8]) -> Result<Instruction<'a>, SyntaxCause>
+    ensures { result_map_both plain_instruction (λ cause. cause) result
+        ≡ instruction_named name.now text.now }
 {
-    let form = form_named(name)?;
-    Instruction::without_operands(form.word).with_operands(form.operands, left)
+    let left = if text.is_empty() { None } else { Some(text) };
+    match form_named(name) {
+        Some(form) => {
+            Instruction::without_operands(form.word).with_operands(form.operands, left)
+        }
+        None => Err(SyntaxCause::NoSuchName),
+    }
 }

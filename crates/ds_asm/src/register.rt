@@ -1,32 +1,9 @@
 //! Registers of a source.
-ghost use Rattle.std.specs.Prelude.{◌≡◌, ◌<◌, [], map, position, bytes_eq, slice_get, unwrap_or, IfSome, length};
-ghost use Rattle.ds_asm.specs.RegisterNames.{register_name, register_names, register_numbered, register_named, register_of, system_register_of};
+ghost use Rattle.std.specs.Prelude.{◌≡◌, ◌<◌, IfSome};
+ghost use Rattle.ds_asm.specs.Registers.{register_numbered, register_of, system_register_of};
 
 use crate::characters::is_digit;
-
-/// The names of the registers 0 to 31.
-static NAMES: [&str; 32] = [
-    "zero", "at", "v0", "v1", "a0", "a1", "a2", "a3", "t0", "t1", "t2", "t3", "t4", "t5", "t6",
-    "t7", "s0", "s1", "s2", "s3", "s4", "s5", "s6", "s7", "t8", "t9", "k0", "k1", "gp", "sp", "fp",
-    "ra",
-];
-
-/// The common name of a register; an empty one past 31.
-pub fn register_name(number: usize) -> &'static str
-    ensures { result.now ≡ register_name number }
-{
-    name_at(NAMES.as_slice(), number)
-}
-
-#[tactic(auto, using(crate::proofs::Names::name_some, crate::proofs::Names::name_none))]
-fn name_at(names: &'static [&'static str], number: usize) -> &'static str
-    ensures { result.now ≡ unwrap_or (slice_get (map (λ t. t.now) names.now) number) [] }
-{
-    match names.get(number) {
-        Some(name) => name,
-        None => "",
-    }
-}
+use ds_text::register_named;
 
 /// The number of a general register: `$` and a number from 0 to 31, or a name.
 pub fn register_of(text: &[u8]) -> Option<u32>
@@ -66,19 +43,4 @@ fn register_numbered(text: &[u8]) -> Option<u32>
         }
         _ => None,
     }
-}
-
-fn register_named(name: &[u8]) -> Option<u32>
-    ensures exact { result ≡ register_named name.now }
-    ensures below { IfSome result (λ n. n < 32) }
-{
-    let place = place_among(NAMES.as_slice(), name)?;
-    Some(place as u32)
-}
-
-fn place_among(names: &[&str], name: &[u8]) -> Option<usize>
-    ensures exact { result ≡ position (λ r. bytes_eq r.now name.now) names.now }
-    ensures below { IfSome result (λ n. n < length names.now) }
-{
-    names.iter().position(|r| r.as_bytes() == name)
 }

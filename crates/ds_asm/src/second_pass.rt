@@ -46,8 +46,8 @@ fn add_line<'a>(bytes: &mut Vec<u8>, labels: &Labels<'a>, line: &'a [u8]) -> Res
         (line_bytes (held_address labels.now) (length bytes.old.items) (line_of line.now)) }
 {
     match line_of(line) {
-        None => Ok(()),
-        Some(line) => match line.statement {
+        Err(_) => Ok(()),
+        Ok(line) => match line.statement {
             None => Ok(()),
             Some(statement) => add_statement(bytes, labels, &statement),
         },

@@ -23,11 +23,11 @@ pub fn source_line(line: &[u8]) -> SourceLine<'_>
     ensures size { result.size ≡ size_in (line_of line.now) }
 {
     match line_of(line) {
-        Some(line) => SourceLine {
+        Ok(line) => SourceLine {
             label: line.label,
             size: optional_size(line.statement),
         },
-        None => SourceLine {
+        Err(_) => SourceLine {
             label: None,
             size: 0,
         },

@@ -2,8 +2,8 @@
 use Rattle.std.proofs.Common.{◌≡◌, ◌≢◌, ◌∙◌, ap, refl, sym, subst, ℕ, zero, suc, add-one, ◌+◌, ◌-◌, ◌<◌, ◌≤◌, false, List, [], ◌∷◌, ◌++◌, append_assoc, arith}
 use Rattle.std.specs.Prelude.{Option, Some, None, Result, Err, IfErr}
 use Rattle.std.specs.Io.KnownBytes.{Appends, Keeps}
-use Rattle.ds_log.specs.Sent.{WriterAnswers, IsAskedOnce}
-use Rattle.ds_log.proofs.Sends.{appends_both, appends_kept, appends_none}
+use Rattle.ds_text.specs.Sent.{WriterAnswers, IsAskedOnce}
+use Rattle.ds_text.proofs.Sends.{appends_both, appends_kept, appends_none}
 use Rattle.ds_words.specs.declared.bare_view.BareView.{BareView}
 use Rattle.ds_bare.specs.declared.ending.Ending.{Ending}
 use Rattle.ds_bare.specs.declared.fault.BareFault.{BareFault}

@@ -2,8 +2,8 @@
 use Rattle.std.proofs.Common.{◌≡◌, ◌∙◌, ap, refl, sym, subst, ℕ, suc, ◌+◌, ◌-◌, ◌<◌, List, [], ◌++◌, append_assoc, arith}
 use Rattle.std.specs.Prelude.{Option, Some, None}
 use Rattle.std.specs.Io.KnownBytes.{Appends}
-use Rattle.ds_log.specs.Sent.{AppendsPart}
-use Rattle.ds_log.proofs.Sends.{appends_none, appends_both, part_after, part_before}
+use Rattle.ds_text.specs.Sent.{AppendsPart}
+use Rattle.ds_text.proofs.Sends.{appends_none, appends_both, part_after, part_before}
 use Rattle.ds_words.specs.declared.bare_view.BareView.{BareView}
 use Rattle.ds_bare.specs.declared.ending.Ending.{Ending}
 use Rattle.ds_bare.specs.declared.ending.Ending.TheVariants.{Counted}

@@ -3,8 +3,8 @@ ghost use Rattle.std.specs.Prelude.{◌≡◌};
 ghost use Rattle.ds_bare.specs.Inner.Faults.{bare_fault_number};
 ghost use Rattle.ds_bare.specs.declared.fault.BareFault.TheVariants as variants;
 
-use ds_log::WriteFailed;
 use ds_mem::OutOfMemory;
+use ds_text::WriteFailed;
 use ds_tlb::BadRandom;
 use std::alloc::{AllocError, AllocFailed};
 use thiserror::Error;

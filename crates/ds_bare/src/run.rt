@@ -2,7 +2,7 @@
 ghost use Rattle.std.specs.Prelude.{◌≡◌, ◌≤◌, ◌<◌, ◌+◌, ◌^◌, ◌↔◌, IfOk, IfErr, OnOk, OnErr, Ok, Err, true, false};
 ghost use Rattle.std.specs.Io.KnownBytes.{Appends, Keeps};
 ghost use Rattle.std.specs.String.{string_bytes};
-ghost use Rattle.ds_log.specs.Sent.{AppendsPart, IsAskedOnce};
+ghost use Rattle.ds_text.specs.Sent.{AppendsPart, IsAskedOnce};
 ghost use Rattle.ds_bare.specs.Faults.{is_cut, is_unwritten, may_start};
 ghost use Rattle.ds_bare.specs.declared.fault.BareFault.TheVariants as fault;
 ghost use Rattle.ds_bare.specs.Machine.{counted, fed, machine_at_start, next_step};
@@ -20,15 +20,15 @@ use crate::machine::{Machine, core_at_start};
 use crate::registers::others;
 use crate::shows::push_lines_shown;
 use ds_asm::Image;
-use ds_log::{Output, send};
 use ds_policy::Character;
+use ds_text::{Output, send};
 use ds_words::BareView;
 use std::alloc::Global;
 
 /// Runs an image on the bare machine, from its first word on in kernel mode, for at most so many
 /// instructions, and tells of it: a line for each instruction that the view wants, and at the end how
 /// the machine stands. It answers why the run ended.
-#[tactic(auto, unfolding(crate::specs::Runs::bare_text), using(crate::proofs::UnderWay::part_none, crate::proofs::CutBetween::cut_first, crate::proofs::CutBetween::asked_none, ds_log::proofs::Sends::asked_both))]
+#[tactic(auto, unfolding(crate::specs::Runs::bare_text), using(crate::proofs::UnderWay::part_none, crate::proofs::CutBetween::cut_first, crate::proofs::CutBetween::asked_none, ds_text::proofs::Sends::asked_both))]
 pub fn run_bare<O: Output>(
     alloc: Global,
     image: &Image,
@@ -59,7 +59,7 @@ pub fn run_bare<O: Output>(
 }
 
 /// Runs a machine for at most so many instructions.
-#[tactic(auto, using(crate::proofs::CutBetween::told_first, crate::proofs::CutBetween::asked_none, ds_log::proofs::Sends::asked_both))]
+#[tactic(auto, using(crate::proofs::CutBetween::told_first, crate::proofs::CutBetween::asked_none, ds_text::proofs::Sends::asked_both))]
 fn run<'a, O: Output>(
     alloc: Global,
     machine: &mut Machine<'a>,

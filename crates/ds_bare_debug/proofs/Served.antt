@@ -3,12 +3,12 @@ use Rattle.std.proofs.Common.{◌≡◌, inl, inr, ℕ, Bool, true, false, List,
 use Rattle.std.specs.Prelude.{Option, Result, Ok, Err}
 use Rattle.std.specs.Io.KnownBytes.{Appends}
 use Rattle.std.proofs.KnownBytes.{Consumes-nil, Keeps-refl}
-use Rattle.ds_log.specs.Sent.{AppendsPart}
+use Rattle.ds_text.specs.Sent.{AppendsPart}
 use Rattle.ds_packets.specs.Packets.{packet_of}
 use Rattle.ds_packets.specs.Scanning.{start}
 use Rattle.ds_packets.specs.Streams.{all_came}
 use Rattle.ds_packets.specs.declared.scan.PacketFault.{PacketFault}
-use Rattle.ds_log.proofs.Sends.{appends_none}
+use Rattle.ds_text.proofs.Sends.{appends_none}
 use Rattle.ds_bare.specs.Faults.{is_cut, may_start}
 use Rattle.ds_bare.specs.declared.fault.BareFault.{BareFault}
 use Rattle.ds_bare.specs.declared.fault.BareFault.TheVariants.{BadRandom, WriteFault, Memory}

@@ -1,7 +1,7 @@
 -- What a session writes, as a function of its run and of the bytes that were read.
 use Rattle.std.specs.Prelude.{◌≡◌, ◌⊎◌, ⊤, ℕ, Bool, true, false, List, [], ◌∷◌, ◌++◌, Result, Ok, Err}
 use Rattle.std.specs.Io.KnownBytes.{Appends, Consumes, IsAtEnd, Keeps}
-use Rattle.ds_log.specs.Sent.{AppendsPart}
+use Rattle.ds_text.specs.Sent.{AppendsPart}
 use Rattle.ds_packets.specs.Packets.{packet_of}
 use Rattle.ds_packets.specs.Scanning.{start}
 use Rattle.ds_packets.specs.Streams.{all_came}

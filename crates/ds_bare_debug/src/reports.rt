@@ -98,7 +98,9 @@ pub(crate) fn push_report<'a>(
             has_more(runner, limit),
         )?,
         Report::Console(line) => push_line(&mut text, line, runner.machine().sent())?,
-        Report::Processes | Report::Log | Report::Table => push_monitor_words(&mut text)?,
+        Report::Processes | Report::Log | Report::Table | Report::TableOf(_) => {
+            push_monitor_words(&mut text)?;
+        }
     }
     push_shown(alloc, out, text.as_slice())
 }

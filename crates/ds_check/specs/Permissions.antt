@@ -9,13 +9,18 @@ use Rattle.ds_policy.specs.declared.policy.Source.{Source}
 use Rattle.ds_policy.specs.Pages.{Table}
 use Rattle.ds_policy.specs.FirstTable.{table_of}
 use Rattle.ds_policy.specs.Value.{PolicyValue}
+use Rattle.ds_policy.specs.Words.{right_word}
 use Rattle.ds_text.specs.Digits.{hex8}
 
--- a right, in a column
-abbrev pub right_text : Right → List ℕ
-right_text Nothing = codes " none  "
-right_text Read = codes " read  "
-right_text Write = codes " write "
+-- what ends the column of rights
+abbrev pub blanks_after : Right → List ℕ
+blanks_after Nothing = codes "  "
+blanks_after Read = codes "  "
+blanks_after Write = codes " "
+
+-- a right, in its column
+unfoldable pub right_text : Right → List ℕ
+right_text right = codes " " ++ right_word right ++ blanks_after right
 
 -- a part of a source
 abbrev pub part_text : Source → List ℕ

@@ -1,7 +1,7 @@
 //! The permission table at the start, as text.
 ghost use Rattle.std.specs.Prelude.{◌≡◌, ◌≤◌, ◌<◌, ◌^◌, ◌++◌, ◌∷◌, [], OnOk, IfOk, length};
 ghost use Rattle.std.specs.List.{flat_map};
-ghost use Rattle.ds_check.specs.Permissions.{table_text, processes_text, process_text, entry_text, granted_text, page_text, part_text, right_text, give_text, until_text};
+ghost use Rattle.ds_check.specs.Permissions.{table_text, processes_text, process_text, entry_text, granted_text, page_text, part_text, right_text, blanks_after, give_text, until_text};
 
 use ds_policy::{Entry, OutOfMemory, Policy, PolicyPage, Right, Source, Table};
 use ds_text::sheet::{push_decimal, push_hex};
@@ -79,7 +79,7 @@ fn push_entry(sheet: &mut Vec<u8>, pages: &[PolicyPage], entry: &Entry) -> Resul
     let grant = entry.grant;
     sheet.extend_from_slice(b"  ")?;
     push_hex(sheet, entry.address)?;
-    sheet.extend_from_slice(right_word(grant.right))?;
+    push_right(sheet, grant.right)?;
     push_granted(sheet, pages, grant.page)?;
     sheet.extend_from_slice(b"rule ")?;
     push_decimal(sheet, u64::from(grant.rule))?;
@@ -137,14 +137,23 @@ fn push_source(sheet: &mut Vec<u8>, source: &Source) -> Result<(), AllocError>
     sheet.extend_from_slice(b", ")
 }
 
-/// The right, with a blank before it and blanks after it.
-fn right_word(right: Right) -> &'static [u8]
-    ensures { result.now ≡ right_text right }
+/// Adds the right, in its column.
+#[tactic(auto, unfolding(crate::specs::Permissions::right_text))]
+fn push_right(sheet: &mut Vec<u8>, right: Right) -> Result<(), AllocError>
+    ensures { OnOk result (sheet.new.items ≡ sheet.old.items ++ right_text right) }
+{
+    sheet.push(b' ')?;
+    sheet.extend_from_slice(right.word().as_bytes())?;
+    sheet.extend_from_slice(blanks_after(right))
+}
+
+/// What ends the column of rights.
+fn blanks_after(right: Right) -> &'static [u8]
+    ensures { result.now ≡ blanks_after right }
 {
     match right {
-        Right::Nothing => b" none  ",
-        Right::Read => b" read  ",
-        Right::Write => b" write ",
+        Right::Nothing | Right::Read => b"  ",
+        Right::Write => b" ",
     }
 }
 

@@ -1,5 +1,5 @@
 -- Between two turns a debugger sees of a station what it would see of each machine state that the station stands for.
-use Rattle.std.proofs.Common.{◌≡◌, ℕ, zero, suc, ◌+◌, ◌<◌, Bool, true, false, cond, nat_lt, nat_le, List, [], ◌++◌, Option, refl, sym, ap, ◌∙◌, arith}
+use Rattle.std.proofs.Common.{◌≡◌, ℕ, zero, suc, ◌+◌, ◌-◌, ◌<◌, Bool, true, false, cond, nat_lt, nat_le, List, [], ◌++◌, Option, refl, sym, ap, ◌∙◌, arith}
 use Rattle.std.specs.Prelude.{◌&&◌, codes, slice_index_or}
 use Rattle.std.proofs.lemmas.Bool.Decides.{nat_tests}
 use Rattle.ds_packets.specs.Framing.{frame, hex_text}
@@ -141,6 +141,9 @@ module _ (v w : Sight) (a : IsAlike v w) where
   report_alike n report.Processes = ap (each (listed_process v) 0) a.count ∙ each_alike (listed_process v) (listed_process w) listed_alike 0 w.count
   report_alike n report.Log = a.log
   report_alike n report.Table = ap (λ (m : PageState). each (entries_text m.table) 0 v.count) a.memory ∙ ap (each (entries_text w.memory.table) 0) a.count
+  report_alike n (report.TableOf p) =
+      ap (λ (m : PageState). cond (nat_lt 0 p && nat_le p v.count) (entries_text m.table (p - 1)) (codes "there is no such process\n")) a.memory
+      ∙ ap (λ (c : ℕ). cond (nat_lt 0 p && nat_le p c) (entries_text w.memory.table (p - 1)) (codes "there is no such process\n")) a.count
   report_alike n (report.Console l) = ap (λ (cs : List (List ℕ)). cond (nat_lt l 4) (slice_index_or cs l []) []) a.consoles
 
   told_alike : (p : ℕ) → told_first v p ≡ told_first w p

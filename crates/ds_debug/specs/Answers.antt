@@ -12,7 +12,7 @@ use Rattle.ds_debug.specs.Memory.{memory_text}
 use Rattle.ds_debug.specs.Registers.{register_text, registers_text}
 use Rattle.ds_debug.specs.Reports.{is_runner, processes_text, thread_words, time_text}
 use Rattle.ds_debug.specs.Sights.{Sight}
-use Rattle.ds_debug.specs.Tables.{table_text}
+use Rattle.ds_debug.specs.Tables.{table_text, table_text_of}
 use Rattle.ds_gdb.specs.Replies.{features_text}
 use Rattle.ds_gdb.specs.Threads.{thread_text, threads_text}
 
@@ -77,3 +77,4 @@ run_report_text n s report.Processes = processes_text s
 run_report_text n s report.Log = s.log
 run_report_text n s (report.Console l) = console_text s l
 run_report_text n s report.Table = table_text s
+run_report_text n s (report.TableOf p) = table_text_of p s

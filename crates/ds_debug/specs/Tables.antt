@@ -1,5 +1,5 @@
 -- The entries of the permission table as text.
-use Rattle.std.specs.Prelude.{codes, decimal, ℕ, ◌+◌, List, [], ◌++◌, flat_map, Option, Some, None}
+use Rattle.std.specs.Prelude.{codes, decimal, ℕ, ◌+◌, ◌-◌, ◌&&◌, nat_lt, nat_le, if◌then◌else◌, List, [], ◌++◌, flat_map, Option, Some, None}
 use Rattle.ds_text.specs.Digits.{hex8}
 use Rattle.ds_policy.specs.declared.grant.Entry.{Entry}
 use Rattle.ds_policy.specs.declared.grant.Grant.{Grant}
@@ -24,6 +24,10 @@ entry_line p e = decimal p ++ codes " " ++ hex8 e.address ++ codes " " ++ grant_
 -- the entries of the process after so many others
 abbrev pub entries_text : Table → ℕ → List ℕ
 entries_text table i = flat_map (entry_line (i + 1)) (entries_of table (i + 1))
+
+-- those of one process, by its number
+abbrev pub table_text_of : ℕ → Sight → List ℕ
+table_text_of p s = if nat_lt 0 p && nat_le p s.count then entries_text s.memory.table (p - 1) else codes "there is no such process\n"
 
 -- those of all processes
 abbrev pub table_text : Sight → List ℕ

@@ -10,7 +10,7 @@ ghost use Rattle.ds_gdb.specs.Outputs.{outputs_text};
 use crate::memory::push_memory;
 use crate::registers::{Registers, push_register, push_registers};
 use crate::reports::{push_processes, push_thread_words, push_time};
-use crate::tables::push_table;
+use crate::tables::{push_table, push_table_of};
 use ds_gdb::{push_description, push_features, push_outputs, push_thread, push_threads};
 use ds_packets::{Packet, Report, Who, push_hex};
 use ds_station::Station;
@@ -207,6 +207,7 @@ pub(crate) fn push_report<L: Lookaside>(
         Report::Log => text.extend_from_slice(station.log())?,
         Report::Console(line) => text.extend_from_slice(console_text(station, line))?,
         Report::Table => push_table(&mut text, station)?,
+        Report::TableOf(process) => push_table_of(&mut text, station, process)?,
     }
     push_outputs(alloc, out, text.as_slice())
 }

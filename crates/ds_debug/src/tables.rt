@@ -2,7 +2,7 @@
 ghost use Rattle.std.specs.Prelude.{◌≡◌, ◌<◌, ◌+◌, ◌++◌, OnOk, flat_map, length};
 ghost use Rattle.ds_station.specs.Reads.{memory_held};
 ghost use Rattle.ds_debug.specs.Sights.{sight_held};
-ghost use Rattle.ds_debug.specs.Tables.{entries_text, entry_line, grant_words, page_text, table_text};
+ghost use Rattle.ds_debug.specs.Tables.{entries_text, entry_line, grant_words, page_text, table_text, table_text_of};
 
 use ds_policy::{Entry, Grant};
 use ds_station::Station;
@@ -70,6 +70,21 @@ fn push_listed<L: Lookaside>(
 {
     let _few = station.processes();
     push_entries(text, index + 1, station.entries(index + 1))
+}
+
+/// Adds those of one process, by its number, or that there is none.
+pub(crate) fn push_table_of<L: Lookaside>(
+    text: &mut Vec<u8>,
+    station: &Station<L>,
+    process: u64,
+) -> Result<(), AllocError>
+    ensures { OnOk result (text.new.items ≡ text.old.items
+        ++ table_text_of process (sight_held station.now.held)) }
+{
+    if process == 0 || process > u64::from(station.processes()) {
+        return text.extend_from_slice(b"there is no such process\n");
+    }
+    push_listed(text, station, process as u32 - 1)
 }
 
 /// Adds those of all processes, a line each.

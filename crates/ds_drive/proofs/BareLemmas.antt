@@ -8,7 +8,7 @@ use Rattle.ds_policy.specs.InputText.{input_of}
 use Rattle.ds_policy.specs.declared.command.Character.{Character}
 use Rattle.ds_policy.specs.declared.events.fault.EventsFault.{EventsFault}
 use Rattle.ds_policy.specs.declared.events.fault.EventsFault.TheVariants as events
-use Rattle.ds_log.specs.Sent.{AppendsPart}
+use Rattle.ds_text.specs.Sent.{AppendsPart}
 use Rattle.ds_words.specs.declared.bare_view.BareView.{BareView}
 use Rattle.ds_bare.specs.Faults.{is_cut, may_start}
 use Rattle.ds_bare.specs.Inner.Keys.{IsFaultOf}

@@ -2,7 +2,7 @@
 use Rattle.std.proofs.Common.{◌≡◌, ◌∙◌, ◌⊎◌, inl, inr, ℕ, ◌≤◌, Bool, false, List, [], ◌++◌, arith, refl, sym, ap}
 use Rattle.std.specs.Prelude.{Option, Some, None}
 use Rattle.clap.specs.Words.{Text}
-use Rattle.ds_log.proofs.Sends.{appends_both}
+use Rattle.ds_text.proofs.Sends.{appends_both}
 use Rattle.ds_pagemap.specs.Text.{state_text}
 use Rattle.ds_refinement.specs.Held.{Held}
 use Rattle.ds_station.specs.declared.outcome.Unended.{Unended}

@@ -2,8 +2,8 @@
 use Rattle.std.proofs.Common.{◌≡◌, ◌∙◌, ◌⊎◌, inl, inr, ℕ, Bool, true, false, ◌||◌, List, [], refl, sym, ap, subst}
 use Rattle.std.specs.Prelude.{Option, Some, None, Result, is_some}
 use Rattle.std.specs.Io.KnownBytes.{Appends}
-use Rattle.ds_log.specs.Sent.{AppendsPart}
-use Rattle.ds_log.proofs.Sends.{appends_none, part_before, part_after}
+use Rattle.ds_text.specs.Sent.{AppendsPart}
+use Rattle.ds_text.proofs.Sends.{appends_none, part_before, part_after}
 use Rattle.ds_pagemap.specs.Inputs.{Refusal}
 use Rattle.ds_pagemap.specs.Machine.{State}
 use Rattle.ds_pagemap.specs.Text.{state_text}

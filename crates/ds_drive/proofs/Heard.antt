@@ -2,8 +2,8 @@
 use Rattle.std.proofs.Common.{◌≡◌, ℕ, true, false, List, [], ◌++◌, append-nil, refl, subst, sym}
 use Rattle.std.specs.Prelude.{Option, Result, Ok, Err, OnOk, OnErr, is_err}
 use Rattle.std.specs.Io.KnownBytes.{Appends}
-use Rattle.ds_log.specs.Sent.{WriterAnswers, AppendsPart, IsAskedOnce}
-use Rattle.ds_log.proofs.Sends.{appends_both, appends_none, asked_both, part_after, part_before}
+use Rattle.ds_text.specs.Sent.{WriterAnswers, AppendsPart, IsAskedOnce}
+use Rattle.ds_text.proofs.Sends.{appends_both, appends_none, asked_both, part_after, part_before}
 use Rattle.ds_bare.proofs.CutBetween.{asked_none}
 use Rattle.ds_drive.specs.declared.faults.Untold.{Untold}
 use Rattle.ds_drive.specs.declared.faults.Untold.TheVariants.{Unwritten, NoMemory}

@@ -4,8 +4,8 @@ use Rattle.std.proofs.lemmas.List.{take_all}
 use Rattle.std.specs.Prelude.{Option, Some, Result, Ok, Err, OnOk, codes, slice_get, slice_index_or}
 use Rattle.std.specs.Io.KnownBytes.{Appends}
 use Rattle.ds_asm.specs.declared.fault.SourceFault.{SourceFault}
-use Rattle.ds_log.specs.Sent.{AppendsPart}
-use Rattle.ds_log.proofs.Sends.{appends_both, appends_none, part_after, part_before}
+use Rattle.ds_text.specs.Sent.{AppendsPart}
+use Rattle.ds_text.proofs.Sends.{appends_both, appends_none, part_after, part_before}
 use Rattle.ds_asm.specs.Assembling.{source_fault_line}
 use Rattle.ds_source_reasons.specs.declared.fault.FaultyLines.{FaultyLines}
 use Rattle.ds_source_reasons.specs.Told.{after_line, after_lines}

@@ -6,8 +6,8 @@ use Rattle.std.specs.Io.KnownBytes.{Keeps}
 use Rattle.clap.specs.Words.{Text}
 use Rattle.ds_listing.specs.Pages.{plain_pages}
 use Rattle.ds_listing.specs.declared.pages.PageLines.{PageLines}
-use Rattle.ds_log.specs.Sent.{AppendsPart}
-use Rattle.ds_log.proofs.Sends.{part_before, part_after}
+use Rattle.ds_text.specs.Sent.{AppendsPart}
+use Rattle.ds_text.proofs.Sends.{part_before, part_after}
 use Rattle.ds_policy.specs.Value.{PolicyValue}
 use Rattle.ds_pagemap.specs.Machine.{State}
 use Rattle.ds_pagemap.specs.Inputs.{Refusal, Sources}

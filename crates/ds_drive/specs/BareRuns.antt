@@ -7,7 +7,7 @@ use Rattle.ds_asm.specs.Assembly.{assembled}
 use Rattle.ds_asm.specs.Faults.{all_faults}
 use Rattle.ds_policy.specs.InputText.{input_of}
 use Rattle.ds_policy.specs.declared.command.Character.{Character}
-use Rattle.ds_log.specs.Sent.{AppendsPart}
+use Rattle.ds_text.specs.Sent.{AppendsPart}
 use Rattle.ds_bare.specs.Faults.{may_start}
 use Rattle.ds_bare.specs.Keys.{keys_in}
 use Rattle.ds_bare.specs.Machine.{machine_at_start}

@@ -6,7 +6,7 @@ use Rattle.ds_policy.specs.PolicyText.{policy_of}
 use Rattle.ds_policy.specs.PolicyParts.{sources_of}
 use Rattle.ds_policy.specs.InputText.{input_of}
 use Rattle.ds_policy.specs.Value.{PolicyValue, InputValue}
-use Rattle.ds_log.specs.Sent.{AppendsPart}
+use Rattle.ds_text.specs.Sent.{AppendsPart}
 use Rattle.ds_pagemap.specs.Machine.{State}
 use Rattle.ds_pagemap.specs.Inputs.{Sources, inputs}
 use Rattle.ds_station.specs.Headline.{EndsBy}

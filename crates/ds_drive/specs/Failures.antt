@@ -8,7 +8,7 @@ use Rattle.ds_pagemap.specs.Machine.{State}
 use Rattle.ds_pagemap.specs.Run.{IsPrefix}
 use Rattle.ds_pagemap.specs.Text.{state_text}
 use Rattle.ds_pagemap.specs.Inputs.{Refusal, Sources, inputs}
-use Rattle.ds_log.specs.Sent.{AppendsPart}
+use Rattle.ds_text.specs.Sent.{AppendsPart}
 use Rattle.ds_station.specs.Faults.{fault_number}
 use Rattle.ds_station.specs.Headline.{Begins, EndsBy}
 use Rattle.ds_station.specs.declared.fault.Fault.{Fault}

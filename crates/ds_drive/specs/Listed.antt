@@ -6,7 +6,7 @@ use Rattle.ds_asm.specs.Faults.{all_faults}
 use Rattle.ds_listing.specs.Listing.{listing_of}
 use Rattle.ds_listing.specs.NamedTexts.{file_as}
 use Rattle.ds_listing.specs.declared.names.RegisterNames.{RegisterNames}
-use Rattle.ds_log.specs.Sent.{AppendsPart}
+use Rattle.ds_text.specs.Sent.{AppendsPart}
 use Rattle.ds_station.specs.declared.fault.Fault.TheVariants as fault
 use Rattle.ds_drive.specs.declared.failure.Failure.{Failure}
 use Rattle.ds_drive.specs.declared.failure.Failure.TheVariants as failure

@@ -1,7 +1,7 @@
 -- What is told to a place that takes bytes.
 use Rattle.std.specs.Prelude.{◌≡◌, ℕ, Bool, false, List, ◌++◌, Option}
 use Rattle.std.specs.Io.KnownBytes.{Appends}
-use Rattle.ds_log.specs.Sent.{WriterAnswers, AppendsPart, IsAskedOnce}
+use Rattle.ds_text.specs.Sent.{WriterAnswers, AppendsPart, IsAskedOnce}
 
 -- what a place held and had answered before, and what now, where that is known
 pub record Listener : Type 0 where

@@ -12,7 +12,7 @@ use crate::run::{lent, read_inputs};
 use crate::status::RUN_FAILED;
 use ds_debug::{Inputs, debug};
 use ds_gdb::Ending;
-use ds_log::{Output, send};
+use ds_text::{Output, send};
 use ds_words::Request;
 use std::alloc::Global;
 use std::io::{Read, Write};

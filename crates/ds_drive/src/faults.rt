@@ -5,18 +5,18 @@ ghost use Rattle.ds_drive.specs.Told.{at_end, caret_below, fault_head, fault_nam
 ghost use Rattle.ds_drive.specs.Inner.Told.{passed_in};
 ghost use Rattle.ds_drive.specs.Inner.Listening.{is_unwritten};
 ghost use Rattle.ds_drive.specs.declared.faults.Untold.TheVariants as variants;
-ghost use Rattle.ds_log.specs.Sent.{AppendsPart, IsAskedOnce};
+ghost use Rattle.ds_text.specs.Sent.{AppendsPart, IsAskedOnce};
 ghost use Rattle.ds_source_reasons.specs.Inner.Told.{plain_fault};
 
 use crate::why::push_mending;
 use ds_asm::{SourceFault, first_line, front_of};
 use ds_check::{Lines, push_caret};
-use ds_log::{Output, WriteFailed, send};
 use ds_source_reasons::{
     FaultReason, FaultyLines, caret_place, last_word, last_word_place, like_label, push_missing,
     push_reason,
 };
 use ds_text::sheet::push_decimal;
+use ds_text::{Output, WriteFailed, send};
 use std::alloc::{AllocError, Global};
 
 /// From how many bytes on a text goes to the writer.
@@ -74,7 +74,7 @@ fn push_head<'a>(
 /// Tells of faults: a line each with the reason at its end, and below it the source's line with a
 /// caret, and how the fault is mended. Where the writer fails, or memory runs out, the rest is not
 /// told.
-#[tactic(auto, using(ds_log::proofs::Sends::asked_both, ds_bare::proofs::CutBetween::asked_none))]
+#[tactic(auto, using(ds_text::proofs::Sends::asked_both, ds_bare::proofs::CutBetween::asked_none))]
 pub(crate) fn tell_lines<'a, 's, E: Output>(
     alloc: Global,
     err: &mut E,

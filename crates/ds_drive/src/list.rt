@@ -10,7 +10,7 @@ ghost use Rattle.ds_drive.specs.Reading.{ReadsAll, ReadsUntil};
 ghost use Rattle.ds_drive.specs.Inner.Reading.{TellsOf};
 ghost use Rattle.ds_drive.specs.Told.{listed_faults, none_passed, told_lines};
 ghost use Rattle.ds_drive.specs.Inner.Told.{passed_in};
-ghost use Rattle.ds_log.specs.Sent.{AppendsPart, IsAskedOnce};
+ghost use Rattle.ds_text.specs.Sent.{AppendsPart, IsAskedOnce};
 
 use crate::failure::Failure;
 use crate::faults::{Untold, Wording, tell_lines};
@@ -22,9 +22,9 @@ use crate::run::named_file;
 use crate::status::INPUT_REFUSED;
 use ds_asm::SourceFault;
 use ds_listing::{Listed, RegisterNames, listing_or_faults, source_of_file_as};
-use ds_log::{Output, send};
 use ds_source_reasons::FaultyLines;
 use ds_station::Fault;
+use ds_text::{Output, send};
 use ds_words::ListRequest;
 use std::alloc::{AllocError, Global};
 use std::io::Write;
@@ -113,7 +113,7 @@ pub fn tell_faults<E: Output>(alloc: Global, err: &mut E, file: &str, source: &F
 
 /// Hands the lines of all faults of a source to the writer, and that it is a policy where it reads as
 /// one.
-#[tactic(auto, using(ds_log::proofs::Sends::asked_both))]
+#[tactic(auto, using(ds_text::proofs::Sends::asked_both))]
 fn send_listed<'a, E: Output>(
     alloc: Global,
     err: &mut E,

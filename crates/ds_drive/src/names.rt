@@ -1,22 +1,10 @@
 //! A file's name as it is shown, in one line and without control characters.
-ghost use Rattle.std.specs.Prelude.{◌≡◌, ◌<◌, OnErr, OnOk, is_err};
+ghost use Rattle.std.specs.Prelude.{OnErr, OnOk, is_err};
 ghost use Rattle.std.specs.Io.KnownBytes.{Appends};
-ghost use Rattle.ds_drive.specs.Names.{digit, shown_byte, shown_name};
-ghost use Rattle.ds_log.specs.Sent.{AppendsPart, IsAskedOnce};
+ghost use Rattle.ds_drive.specs.Names.{shown_byte, shown_name};
+ghost use Rattle.ds_text.specs.Sent.{AppendsPart, IsAskedOnce};
 
-use ds_log::{Output, WriteFailed, send};
-
-/// A hexadecimal digit, in lower case.
-fn digit(number: u8) -> u8
-    requires { number < 16 }
-    ensures { result ≡ digit number }
-{
-    if number < 10 {
-        b'0' + number
-    } else {
-        b'a' - 10 + number
-    }
-}
+use ds_text::{Output, WriteFailed, lower_hex_digit, send};
 
 /// Hands a byte of a name to the writer, or what is shown of it where it is a control character.
 fn send_byte<O: Output>(out: &mut O, byte: u8) -> Result<(), WriteFailed>
@@ -30,13 +18,21 @@ fn send_byte<O: Output>(out: &mut O, byte: u8) -> Result<(), WriteFailed>
         return send(out, b"\\n");
     }
     if byte < 32 || byte == 127 {
-        return send(out, &[b'\\', b'x', digit(byte / 16), digit(byte % 16)]);
+        return send(
+            out,
+            &[
+                b'\\',
+                b'x',
+                lower_hex_digit(byte / 16),
+                lower_hex_digit(byte % 16),
+            ],
+        );
     }
     send(out, &[byte])
 }
 
 /// Hands a name to the writer as it is shown.
-#[tactic(auto, unfolding(crate::specs::Names::shown_name), using(ds_log::proofs::Sends::asked_both, ds_bare::proofs::CutBetween::asked_none))]
+#[tactic(auto, unfolding(crate::specs::Names::shown_name), using(ds_text::proofs::Sends::asked_both, ds_bare::proofs::CutBetween::asked_none))]
 pub(crate) fn send_name<O: Output>(out: &mut O, name: &[u8]) -> Result<(), WriteFailed>
     ensures ok { OnOk result
         (Appends (O.contents out.old) (O.contents out.new) (shown_name name.now)) }

@@ -14,8 +14,8 @@ use ds_check::{
     AssembledSources, code_notes, code_notes_text, crowds, crowds_text, policy_notes,
     policy_notes_text, starts_text,
 };
-use ds_log::{Output, send};
 use ds_policy::{Events, EventsFault, OutOfMemory, Policy};
+use ds_text::{Output, send};
 use std::alloc::{AllocError, Global};
 
 /// What a check finds besides what is explained of a policy and an input.

@@ -5,7 +5,7 @@ ghost use Rattle.ds_drive.specs.Listening.{IsToldText, listener};
 ghost use Rattle.ds_drive.specs.Outcomes.{IsFollowed, came_of, end_told, left, wants_more, where_asked, where_wanted};
 ghost use Rattle.ds_drive.specs.Inner.Outcomes.{came_status, is_more};
 ghost use Rattle.ds_drive.specs.Windows.{windows_text};
-ghost use Rattle.ds_log.specs.Sent.{AppendsPart};
+ghost use Rattle.ds_text.specs.Sent.{AppendsPart};
 ghost use Rattle.ds_pagemap.specs.Machine.{State};
 ghost use Rattle.ds_refinement.specs.Stands.{Stands};
 ghost use Rattle.ds_station.specs.Outcome.{first_unended};
@@ -15,8 +15,8 @@ ghost use Rattle.ds_words.specs.Windows.{IsWindow, windows_in};
 
 use crate::status::{DONE, RUN_FAILED, UNENDED};
 use crate::windows::send_windows;
-use ds_log::{Output, send};
 use ds_station::{Extent, Fault, Station, Unended};
+use ds_text::{Output, send};
 use ds_tlb::Lookaside;
 use ds_trace::{account, unended_line};
 use ds_words::Extras;

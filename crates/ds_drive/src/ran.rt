@@ -8,9 +8,9 @@ ghost use Rattle.ds_station.specs.Headline.{sources_seen};
 ghost use Rattle.ds_words.specs.Windows.{IsWindow, windows_in};
 
 use crate::outcome::{Outcome, finish, summary_of};
-use ds_log::Output;
 use ds_policy::Policy;
 use ds_station::{Bounded, Extent, Fault, run_station, run_station_at_most};
+use ds_text::Output;
 use ds_trace::{Summed, run_summed};
 use ds_words::RunRequest;
 use std::alloc::Global;

@@ -9,7 +9,7 @@ ghost use Rattle.ds_drive.specs.Names.{shown_name};
 ghost use Rattle.ds_drive.specs.Statuses.{fault_status};
 ghost use Rattle.ds_drive.specs.Told.{below_text, cause_below, cause_shown, failure_line, fault_shown_in, fault_words, input_shown, none_passed, others_shown, others_told, pass, place_line, policy_shown, reason_after, reason_or_mending, source_fault_words, source_shown, why_told};
 ghost use Rattle.ds_drive.specs.Inner.Told.{passed_in};
-ghost use Rattle.ds_log.specs.Sent.{AppendsPart, IsAskedOnce};
+ghost use Rattle.ds_text.specs.Sent.{AppendsPart, IsAskedOnce};
 
 use crate::failure::Failure;
 use crate::faults::{Untold, Wording, push_caret_at, push_fault_shown, tell_lines};
@@ -20,12 +20,11 @@ use crate::status::status_of;
 use crate::why::{first_reason, push_mending, push_reason_told};
 use ds_asm::SourceFault;
 use ds_check::{Lines, Place, push_place};
-use ds_log::{Output, WriteFailed, send, send_all};
 use ds_policy_reasons::{InputCause, cause_place};
 use ds_source_reasons::FaultyLines;
 use ds_station::Fault;
 use ds_text::sheet::push_decimal;
-use itoa::Buffer;
+use ds_text::{Buffer, Output, WriteFailed, send, send_all};
 use std::alloc::{AllocError, Global};
 
 /// Tells of a failure in one line, and answers the status. Where the writer fails, the rest is not
@@ -70,7 +69,7 @@ fn send_refused<'a, E: Output>(alloc: Global, err: &mut E, refused: &Refused<'a>
 }
 
 /// Hands what is told of a refusal below its first line to the writer.
-#[tactic(auto, using(ds_log::proofs::Sends::asked_both))]
+#[tactic(auto, using(ds_text::proofs::Sends::asked_both))]
 fn send_below<'a, E: Output>(
     alloc: Global,
     err: &mut E,
@@ -115,7 +114,7 @@ fn send_failure<'a, E: Output>(err: &mut E, failure: &Failure<'a>) -> Result<(),
 }
 
 /// Hands the line of a file that can't be read to the writer.
-#[tactic(auto, using(ds_log::proofs::Sends::asked_both))]
+#[tactic(auto, using(ds_text::proofs::Sends::asked_both))]
 fn send_unreadable<E: Output>(err: &mut E, name: &[u8]) -> Result<(), WriteFailed>
     ensures all { OnOk result (Appends (E.contents err.old) (E.contents err.new)
         (codes "dsmon: " ++ ((codes "26 Unreadable " ++ shown_name name.now) ++ codes "\n"))) }
@@ -190,7 +189,7 @@ fn send_source_fault<E: Output>(
 }
 
 /// Hands a line of the program to the writer: some words, and what they carry.
-#[tactic(auto, using(ds_log::proofs::Sends::asked_both))]
+#[tactic(auto, using(ds_text::proofs::Sends::asked_both))]
 fn send_line<E: Output>(err: &mut E, words: &[&[u8]], carried: &[&[u8]]) -> Result<(), WriteFailed>
     ensures all { OnOk result (Appends (E.contents err.old) (E.contents err.new)
         (codes "dsmon: " ++ (flat_map (λ word. word.now) words.now

@@ -3,14 +3,14 @@ ghost use Rattle.std.specs.Prelude.{◌≡◌, IfErr, OnErr, OnOk, flat_map, len
 ghost use Rattle.std.specs.List.{All};
 ghost use Rattle.std.specs.Io.KnownBytes.{Appends};
 ghost use Rattle.ds_drive.specs.Windows.{lacking_of, window_lines_in, window_lines};
-ghost use Rattle.ds_log.specs.Sent.{AppendsPart};
+ghost use Rattle.ds_text.specs.Sent.{AppendsPart};
 ghost use Rattle.ds_station.specs.Reads.{memory_held};
 ghost use Rattle.ds_trace.specs.Inner.Handed.{IsLate};
 ghost use Rattle.ds_words.specs.Windows.{IsWindow};
 
-use ds_log::Output;
 use ds_policy::PolicyProcess;
 use ds_station::{Fault, Station};
+use ds_text::Output;
 use ds_tlb::Lookaside;
 use ds_trace::send_memory;
 use ds_words::Window;

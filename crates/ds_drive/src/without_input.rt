@@ -11,7 +11,7 @@ ghost use Rattle.ds_words.specs.Words.{AsksForSomething, MisnamesMemory, command
 
 use crate::files::Files;
 use crate::program::drive_with_input;
-use ds_log::Output;
+use ds_text::Output;
 use std::alloc::Global;
 use std::io;
 use std::io::Write;

@@ -2,7 +2,7 @@
 ghost use Rattle.std.specs.Prelude.{◌≡◌, ◌++◌, Err, IfErr, IfOk, OnOk, take};
 ghost use Rattle.std.specs.Io.KnownBytes.{Appends, Keeps};
 ghost use Rattle.ds_asm.specs.Assembly.{lines_of};
-ghost use Rattle.ds_log.specs.Sent.{AppendsPart, IsAskedOnce};
+ghost use Rattle.ds_text.specs.Sent.{AppendsPart, IsAskedOnce};
 ghost use Rattle.ds_pagemap.specs.Inputs.{Refusal, inputs_under};
 ghost use Rattle.ds_station.specs.Faults.{is_unwritten};
 ghost use Rattle.ds_station.specs.Headline.{Begins, IsRefused, Refuses, sources_seen};
@@ -14,10 +14,10 @@ ghost use Rattle.ds_log_reasons.specs.Inner.Sentences.{context};
 
 use crate::chosen::Chosen;
 use crate::moments::told_lines;
-use ds_log::{Output, send};
 use ds_log_reasons::{Known, Texts, pages_with};
 use ds_policy::Policy;
 use ds_station::{Fault, prepare};
+use ds_text::{Output, send};
 use std::alloc::Global;
 
 /// The log of a run for n.

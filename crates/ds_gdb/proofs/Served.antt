@@ -3,8 +3,8 @@ use Rattle.std.proofs.Common.{◌≡◌, ◌⊎◌, inl, inr, ℕ, Bool, true, f
 use Rattle.std.specs.Prelude.{Option, Result, Ok, Err}
 use Rattle.std.specs.Io.KnownBytes.{Appends, Consumes, Keeps}
 use Rattle.std.proofs.KnownBytes.{Consumes-nil, Consumes-trans, Consumes-kept}
-use Rattle.ds_log.specs.Sent.{AppendsPart}
-use Rattle.ds_log.proofs.Sends.{appends_both, appends_none, part_before, part_after}
+use Rattle.ds_text.specs.Sent.{AppendsPart}
+use Rattle.ds_text.proofs.Sends.{appends_both, appends_none, part_before, part_after}
 use Rattle.ds_packets.specs.Scanning.{came, scanned}
 use Rattle.ds_packets.specs.Streams.{all_came, as_list}
 use Rattle.ds_packets.specs.declared.scan.PacketFault.{PacketFault}

@@ -1,7 +1,7 @@
 -- What a session with gdb writes while it reads, to its end.
 use Rattle.std.specs.Prelude.{◌≡◌, ◌⊎◌, true, false, ℕ, List, [], ◌++◌, Option, ⊤}
 use Rattle.std.specs.Io.KnownBytes.{Appends, Consumes, IsAtEnd}
-use Rattle.ds_log.specs.Sent.{AppendsPart}
+use Rattle.ds_text.specs.Sent.{AppendsPart}
 use Rattle.ds_packets.specs.Scanning.{start}
 use Rattle.ds_gdb.specs.Streams.{Hears, StreamState, mark_text}
 use Rattle.ds_gdb.specs.declared.serving.Ending.{Ending}

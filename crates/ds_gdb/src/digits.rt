@@ -2,7 +2,8 @@
 ghost use Rattle.std.specs.Prelude.{◌≡◌, ◌<◌, ◌++◌, OnOk};
 ghost use Rattle.ds_gdb.specs.Digits.{low_first_text, number_text, word_or_none};
 
-use ds_packets::{hex_digit, push_hex};
+use ds_packets::push_hex;
+use ds_text::lower_hex_digit;
 use std::alloc::AllocError;
 
 /// Adds a word in hexadecimal digits, its lowest byte first.
@@ -25,7 +26,7 @@ pub fn push_number(text: &mut Vec<u8>, number: u8) -> Result<(), AllocError>
     ensures { OnOk result (text.new.items ≡ text.old.items ++ number_text number) }
 {
     if number < 16 {
-        text.extend_from_slice(&[hex_digit(number)])
+        text.extend_from_slice(&[lower_hex_digit(number)])
     } else {
         push_hex(text, &[number])
     }

@@ -1,7 +1,7 @@
 //! A session with gdb over a reader and a writer.
 ghost use Rattle.std.specs.Prelude.{◌∷◌, [], IfOk, IfSome, OnErr, OnOk};
 ghost use Rattle.std.specs.Io.KnownBytes.{Appends};
-ghost use Rattle.ds_log.specs.Sent.{AppendsPart};
+ghost use Rattle.ds_text.specs.Sent.{AppendsPart};
 ghost use Rattle.ds_packets.specs.Streams.{as_list};
 ghost use Rattle.ds_gdb.specs.Serving.{EndsSo, ServedPart, Serves, ServesPart, WritesSo, pipes};
 ghost use Rattle.ds_gdb.specs.Inner.Serving.{IsCutAt, IsCutIn};
@@ -9,8 +9,8 @@ ghost use Rattle.ds_gdb.specs.Streams.{Hears, HearsAll, HearsWords, mark_text};
 
 use crate::stream::{Exchange, Stream};
 use crate::target::Target;
-use ds_log::send;
 use ds_packets::{Data, PacketFault};
+use ds_text::send;
 use std::alloc::Global;
 use std::io::{ErrorKind, Read, Write};
 

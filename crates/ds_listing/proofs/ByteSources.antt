@@ -1,5 +1,5 @@
 -- The text of bytes assembles to them.
-use Rattle.std.proofs.Common.{◌≡◌, ◌∙◌, ap, sym, refl, ℕ, ◌+◌, ◌*◌, ◌/◌, ◌%◌, ◌^◌, ◌<◌, ◌≤◌, Bool, true, false, ◌==◌, nat_le, nat_lt, List, [], ◌∷◌, ◌++◌, length, length-append, map, Option, Some, option_map, Ok, arith, append-nil, append_assoc}
+use Rattle.std.proofs.Common.{◌≡◌, ◌∙◌, ap, sym, refl, ℕ, ◌+◌, ◌*◌, ◌/◌, ◌%◌, ◌^◌, ◌<◌, ◌≤◌, Bool, true, false, ◌==◌, nat_le, nat_lt, List, [], ◌∷◌, ◌++◌, length, length-append, map, Option, Some, Ok, arith, append-nil, append_assoc}
 use Rattle.std.specs.Prelude.{codes}
 use Rattle.std.specs.List.{All, list_all, starts_with}
 use Rattle.std.proofs.lemmas.Bool.{and_from, le-leb, le-ltb, ne_eqb}
@@ -8,7 +8,8 @@ use Rattle.ds_word.specs.Bytes.{bytes_of_word}
 use Rattle.ds_word.specs.Digits.{digits_from}
 use Rattle.ds_word.specs.ResultBinding.{◌>>=◌}
 use Rattle.ds_asm.specs.Numbers.{written_number}
-use Rattle.ds_asm.specs.Lines.{Byte, statement_named, statement_of, line_of}
+use Rattle.ds_asm.specs.declared.line.Directive.TheVariants as directive
+use Rattle.ds_asm.specs.Lines.{Byte, statement_of, line_of}
 use Rattle.ds_asm.specs.Inner.Lines.{nothing}
 use Rattle.ds_asm.specs.Assembly.{at_line, empty_layout, most_bytes, laid_line, laid_lines, line_bytes, bytes_from, lines_of, label_address, assembled}
 use Rattle.ds_asm.proofs.SourceLines.{lines_of-first}
@@ -21,7 +22,7 @@ use Rattle.ds_listing.proofs.Numbers.{below_at, hex_digit_of, digit_read, digits
 use Rattle.ds_listing.proofs.Values.{number_hexadecimal}
 use Rattle.ds_listing.proofs.Parts.{IsBody, all_both, all_weaker, is_other, body_line, until_seam, after_seam}
 use Rattle.ds_listing.proofs.Operands.{is_inside}
-use Rattle.ds_listing.proofs.Statements.{inside_line, operands_body, statement_with}
+use Rattle.ds_listing.proofs.Statements.{inside_line, operands_body, statement_with, directed_number}
 use Rattle.ds_listing.proofs.Sources.{plain_layout, word_laid, word_added}
 
 -- two hexadecimal digits are read back
@@ -43,13 +44,12 @@ hex2_inside b l =
 byte_body : (b : ℕ) → b < 256 → IsBody (byte_text b)
 byte_body b l = operands_body 46 (codes "byte") 48 (120 ∷ hex2 b) refl (hex2_inside b l)
 
-byte_statement : (b : ℕ) → b < 256 → statement_of (byte_text b) ≡ Some (Byte (record { negative = false; magnitude = b }))
-unfolding statement_named
+byte_statement : (b : ℕ) → b < 256 → statement_of (byte_text b) ≡ Ok (Byte (record { negative = false; magnitude = b }))
 byte_statement b l =
     statement_with (codes ".byte") 48 (120 ∷ hex2 b) refl (hex2_inside b l)
-    ∙ ap (option_map (λ n. Byte n)) (number_byte b l)
+    ∙ directed_number directive.Byte (codes ".byte") (codes "0x" ++ hex2 b) _ _ refl (number_byte b l) refl
 
-byte_said : (b : ℕ) → b < 256 → line_of (byte_text b) ≡ alone (Some (Byte (record { negative = false; magnitude = b })))
+byte_said : (b : ℕ) → b < 256 → line_of (byte_text b) ≡ alone (Ok (Byte (record { negative = false; magnitude = b })))
 byte_said b l = body_line (byte_text b) (byte_body b l) ∙ ap alone (byte_statement b l)
 
 byte_one_line : (b : ℕ) → b < 256 → list_all (is_other 10) (byte_text b) ≡ true
@@ -133,7 +133,7 @@ bytes_read bytes said few =
     ∙ source_added 1 (label_address []) [] bytes said)
 
 -- also with a line before it that says nothing
-commented_read : (line bytes : List ℕ) → list_all (is_other 10) line ≡ true → line_of line ≡ Some nothing → AreSaid bytes → length bytes ≤ 65536 → assembled (line ++ 10 ∷ source_of_bytes bytes) ≡ Ok bytes
+commented_read : (line bytes : List ℕ) → list_all (is_other 10) line ≡ true → line_of line ≡ Ok nothing → AreSaid bytes → length bytes ≤ 65536 → assembled (line ++ 10 ∷ source_of_bytes bytes) ≡ Ok bytes
 commented_read line bytes one none said few =
     ap (λ ls. laid_lines 1 empty_layout ls >>= (λ layout. bytes_from 1 (label_address layout.labels) [] ls)) (line_before line (source_of_bytes bytes) one ∙ ap (λ ls. line ∷ ls) (lines_of_source bytes said))
     ∙ (ap (λ x. (at_line 1 (laid_line x empty_layout) >>= (λ more. laid_lines 2 more (lines_in bytes))) >>= (λ layout. bytes_from 1 (label_address layout.labels) [] (line ∷ lines_in bytes))) none
@@ -142,7 +142,7 @@ commented_read line bytes one none said few =
     ∙ source_added 2 (label_address []) [] bytes said)))
 
 -- the comment says nothing
-elf_line : line_of (codes "# this file begins as an ELF file does") ≡ Some nothing
+elf_line : line_of (codes "# this file begins as an ELF file does") ≡ Ok nothing
 unfolding line_of
 elf_line = refl
 

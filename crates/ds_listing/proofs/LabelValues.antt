@@ -1,5 +1,5 @@
 -- The labels at a listing's end are the assembler's.
-use Rattle.std.proofs.Common.{◌≡◌, ◌∙◌, sym, ap, refl, ℕ, ◌+◌, ◌≤◌, Bool, if◌then◌else◌, true, false, List, [], ◌∷◌, ◌++◌, length, append_assoc, append-nil, Option, Some, None, is_some, Ok, Err, arith}
+use Rattle.std.proofs.Common.{◌≡◌, ◌∙◌, sym, ap, refl, ℕ, ◌+◌, ◌≤◌, Bool, if◌then◌else◌, true, false, List, [], ◌∷◌, ◌++◌, length, append_assoc, append-nil, Option, Some, None, is_some, Result, Ok, Err, arith}
 use Rattle.std.specs.Prelude.{codes, reverse}
 use Rattle.std.specs.List.{flat_map}
 use Rattle.std.proofs.lemmas.Grind.{flat_map-append}
@@ -7,6 +7,7 @@ use Rattle.std.proofs.lemmas.List.{reverse-append}
 use Rattle.std.proofs.Math.Seq.{take-append_seam}
 use Rattle.ds_word.proofs.ResultBinding.{bind_ok}
 use Rattle.ds_asm.specs.declared.cause.Cause.TheVariants.{DoubleLabel}
+use Rattle.ds_asm.specs.declared.syntax.SyntaxCause.{SyntaxCause}
 use Rattle.ds_asm.specs.Lines.{Line, line_of}
 use Rattle.ds_asm.specs.Assembly.{at_line, Labels, Layout, empty_layout, origin, label_address, labelled, sized, laid_line, laid_lines, line_bytes, bytes_from, lines_of, assembled}
 use Rattle.ds_asm.specs.Faults.{label_in, size_in}
@@ -44,9 +45,9 @@ label_named : (at : ℕ) (label : Option (List ℕ)) (labels more : Labels) → 
 label_named at None labels more h = cc
 label_named at (Some name) labels more h = named_by (is_some (label_address labels name)) at name labels more h
 
-line_named : (m next : Layout) (x : Option Line) → laid_line x m ≡ Ok next → next.labels ≡ value_at m.size (label_in x) ++ m.labels
-line_named m next None h = cc
-line_named m next (Some line) h =
+line_named : (m next : Layout) (x : Result Line SyntaxCause) → laid_line x m ≡ Ok next → next.labels ≡ value_at m.size (label_in x) ++ m.labels
+line_named m next (Err cause) h = cc
+line_named m next (Ok line) h =
     let (labels, a, b) = bind_ok (labelled m.size line.label m.labels) _ next h in
     let (size, c, d) = bind_ok (sized m.size line.statement) (λ size. Ok (record { labels = labels; size = size })) next b in
     let same : labels ≡ next.labels = (let e : record { labels = labels; size = size } ≡ next = cc in ap (λ (l : Layout). l.labels) e) in

@@ -1,9 +1,10 @@
 -- Listings: a line at a time, and what they show.
-use Rattle.std.proofs.Common.{◌≡◌, ◌∙◌, sym, ap, subst, refl, inl, inr, ℕ, ◌+◌, List, [], ◌∷◌, ◌++◌, length, length-append, append_assoc, append-nil, replicate, take, drop, Option, Some, None, Ok, arith}
+use Rattle.std.proofs.Common.{◌≡◌, ◌∙◌, sym, ap, subst, refl, inl, inr, ℕ, ◌+◌, List, [], ◌∷◌, ◌++◌, length, length-append, append_assoc, append-nil, replicate, take, drop, Option, Some, None, Result, Ok, Err, arith}
 use Rattle.std.specs.List.{flat_map}
 use Rattle.std.proofs.lemmas.List.{length-replicate, take-append-drop}
 use Rattle.std.proofs.Math.Seq.{take-append_seam, drop-append-add}
 use Rattle.ds_word.proofs.ResultBinding.{bind_ok}
+use Rattle.ds_asm.specs.declared.syntax.SyntaxCause.{SyntaxCause}
 use Rattle.ds_asm.specs.Lines.{Statement, Encoded, WordNumber, WordLabel, Byte, Space, Line, line_of}
 use Rattle.ds_asm.specs.Assembly.{at_line, empty_layout, label_address, laid_lines, statement_bytes, optional_bytes, line_bytes, bytes_from, lines_of, assembled}
 use Rattle.ds_asm.specs.Faults.{label_in, size_in}
@@ -64,9 +65,9 @@ optional_told : (find : List ℕ → Option ℕ) (at : ℕ) (s : Option Statemen
 optional_told find at None more h = let same : [] ≡ more = cc in subst IsTold same none_told
 optional_told find at (Some s) more h = statement_told find at s more h
 
-line_told : (find : List ℕ → Option ℕ) (at : ℕ) (x : Option Line) (more : List ℕ) → line_bytes find at x ≡ Ok more → IsTold more
-line_told find at None more h = let same : [] ≡ more = cc in subst IsTold same none_told
-line_told find at (Some line) more h = optional_told find at line.statement more h
+line_told : (find : List ℕ → Option ℕ) (at : ℕ) (x : Result Line SyntaxCause) (more : List ℕ) → line_bytes find at x ≡ Ok more → IsTold more
+line_told find at (Err cause) more h = let same : [] ≡ more = cc in subst IsTold same none_told
+line_told find at (Ok line) more h = optional_told find at line.statement more h
 
 first_shown : (n at : ℕ) (line : List ℕ) (lines : List (List ℕ)) (more tail : List ℕ) → size_in (line_of line) ≡ length more → IsTold more
     → ((place : ℕ) → Shows (rows_from (n + 1) place tail lines) tail)

@@ -1,16 +1,16 @@
 -- The operands of an instruction are read back into their fields.
-use Rattle.std.proofs.Common.{◌≡◌, ◌∙◌, ap, sym, subst, refl, inl, inr, ℕ, ◌+◌, ◌-◌, ◌*◌, ◌%◌, ◌^◌, ◌<◌, Bool, true, false, not, ◌&&◌, ◌||◌, ◌==◌, nat_le, List, [], ◌∷◌, ◌++◌, length, length-append, map, decimal, Option, Some, None, option_map, if◌then◌else◌, arith, append-nil}
+use Rattle.std.proofs.Common.{◌≡◌, ◌∙◌, ap, sym, subst, refl, inl, inr, ℕ, ◌+◌, ◌-◌, ◌*◌, ◌%◌, ◌^◌, ◌<◌, Bool, true, false, not, ◌&&◌, ◌||◌, ◌==◌, nat_le, List, [], ◌∷◌, ◌++◌, length, length-append, map, decimal, Option, Some, None, option_map, ok_or, Ok, if◌then◌else◌, arith, append-nil}
 use Rattle.std.specs.Prelude.{codes}
 use Rattle.std.specs.List.{list_all, flat_map}
 use Rattle.std.proofs.lemmas.Bool.{cases_Bool, and_parts, and_left, and_right, eqb-true, or_cases, not-true}
 use Rattle.std.proofs.Math.Seq.{take-append_seam, get_or-append_seam}
 use Rattle.ds_word.specs.Word.{word}
-use Rattle.ds_word.specs.OptionBinding.{◌>>=◌}
+use Rattle.ds_word.specs.ResultBinding.{◌>>=◌}
 use Rattle.ds_isa.specs.Fields.{Field, rd, Operand, Register, LinkRegister, SystemRegister, Number, Code, Signed, Branch, Jump, Indexed, places, filled}
 use Rattle.ds_asm.specs.Characters.{is_blank, trimmed, until, text_after}
 use Rattle.ds_asm.specs.Numbers.{written_number}
-use Rattle.ds_asm.specs.Operands.{without_operands, with_value, with_number, with_register, with_signed, with_unsigned, with_indexed, with_operand, with_operands, with_first, before_close, is_link, has_comma}
-use Rattle.ds_asm.specs.RegisterNames.{register_of}
+use Rattle.ds_asm.specs.Operands.{without_operands, with_value, with_number, with_register, with_signed, with_unsigned, with_indexed, with_operand, with_operands, with_first, operand_misfit, before_close, is_link, has_comma}
+use Rattle.ds_asm.specs.Registers.{register_of}
 use Rattle.ds_listing.specs.Texts.{register_read_text, signed_text, unsigned_text, distance_text, operand_by, others_by}
 use Rattle.ds_text.specs.Digits.{hex4, hex8}
 use Rattle.ds_listing.proofs.Numbers.{decimal_all, hex4_all, hex8_all}
@@ -80,20 +80,17 @@ trimmed_all [] h = refl
 trimmed_all (x ∷ xs) h = trimmed_dense x xs h
 
 -- what stands before a parenthesis at the end
-closed : (xs : List ℕ) → before_close (xs ++ 41 ∷ []) ≡ Some xs
+closed : (xs : List ℕ) → before_close (xs ++ 41 ∷ []) ≡ Some (trimmed xs)
 closed xs =
     let size : length (xs ++ 41 ∷ []) - 1 ≡ length xs = omega (arith, length-append xs (41 ∷ [])) in
     rw (size, get_or-append_seam xs 41 [] 0, take-append_seam xs (41 ∷ [])) refl
 
 -- an offset and a base, where the parts of their text are known
-indexed_by : (base offset : Field) (text rest inner front : List ℕ) (w n : ℕ) → text_after 40 text ≡ Some rest → before_close rest ≡ Some inner → register_of (trimmed inner) ≡ Some n → trimmed (until 40 text) ≡ front
+indexed_by : (base offset : Field) (text rest inner front : List ℕ) (w n : ℕ) → text_after 40 text ≡ Some rest → before_close rest ≡ Some inner → register_of inner ≡ Some n → trimmed (until 40 text) ≡ front
     → with_indexed base offset text (without_operands w) ≡ with_signed offset front (with_value base n (without_operands w))
 unfolding with_indexed
 indexed_by base offset text rest inner front w n a b c d =
-    ap (λ o. o >>= (λ more. before_close more >>= (λ name. register_of (trimmed name) >>= (λ r. with_signed offset (trimmed (until 40 text)) (with_value base r (without_operands w)))))) a
-    ∙ (ap (λ o. o >>= (λ name. register_of (trimmed name) >>= (λ r. with_signed offset (trimmed (until 40 text)) (with_value base r (without_operands w))))) b
-    ∙ (ap (λ o. o >>= (λ r. with_signed offset (trimmed (until 40 text)) (with_value base r (without_operands w)))) c
-    ∙ ap (λ t. with_signed offset t (with_value base n (without_operands w))) d))
+    rw (a, b, c, d) refl
 
 indexed_taken : (base offset : Field) (at : Field → ℕ) (w : ℕ) → Fit at → base.width ≡ 5 → offset.width ≡ 16
     → with_indexed base offset (operand_by register_read_text at (Indexed base offset)) (without_operands w) ≡ Some (without_operands (added (base ∷ offset ∷ []) at w))
@@ -104,7 +101,7 @@ indexed_taken base offset at w fit b o =
     let front = signed_all (is_other 40) refl refl (at offset) (omega arith) in
     let dense = signed_all (λ c. not (is_blank c)) refl refl (at offset) (omega arith) in
     let close = register_all (λ c. not (is_blank c)) refl refl (at base) (omega arith) in
-    indexed_by base offset (signed_text (at offset) ++ 40 ∷ after_offset) after_offset (register_read_text (at base)) (signed_text (at offset)) w (at base)
+    indexed_by base offset (signed_text (at offset) ++ 40 ∷ after_offset) after_offset (trimmed (register_read_text (at base))) (signed_text (at offset)) w (at base)
     (after_some 40 (signed_text (at offset)) after_offset front refl)
     (closed (register_read_text (at base)))
     (ap register_of (trimmed_all (register_read_text (at base)) close) ∙ register_read (at base) (omega arith))
@@ -198,27 +195,27 @@ comma_there : (xs ys : List ℕ) → list_all (is_other 44) xs ≡ true → has_
 comma_there xs ys h = seam_there 44 xs ys h refl
 
 -- the operands of a text put their values into their fields
-pub operands_taken : (o : Operand) (os : List Operand) (at : Field → ℕ) (w : ℕ) → Fit at → AreWords at → are_plain (o ∷ os) ≡ true
-    → with_operands (o ∷ os) (Some (operand_by register_read_text at o ++ others_by register_read_text at os)) (without_operands w) ≡ Some (without_operands (added (flat_map places (o ∷ os)) at w))
+pub operands_taken : (k : ℕ) (o : Operand) (os : List Operand) (at : Field → ℕ) (w : ℕ) → Fit at → AreWords at → are_plain (o ∷ os) ≡ true
+    → with_operands k (o ∷ os) (Some (operand_by register_read_text at o ++ others_by register_read_text at os)) (without_operands w) ≡ Ok (without_operands (added (flat_map places (o ∷ os)) at w))
 unfolding with_operands
-operands_taken o [] at w fit words h =
+operands_taken k o [] at w fit words h =
     let (a, b) = and_parts (is_plain o) (not (is_link o)) h in
     let text = operand_by register_read_text at o ++ [] in
     let clear : list_all (is_other 44) text ≡ true = all_both (is_other 44) (operand_by register_read_text at o) [] (all_weaker is_clear (is_other 44) clear_other (operand_by register_read_text at o) (operand_clear o at words)) refl in
     let link : is_link o && not (has_comma text) ≡ false = and_left (is_link o) _ (not-true (is_link o) b) in
-    ap (λ c. (if c then Some (Some text, with_value rd 31 (without_operands w)) else with_first o text (without_operands w)) >>= (λ p. with_operands [] p.0 p.1)) link
-    ∙ (ap (λ r. r >>= (λ p. with_operands [] p.0 p.1)) (first_taken o at w text None fit words a (until_none 44 text clear ∙ append-nil (operand_by register_read_text at o)) (after_none 44 text clear))
-    ∙ ap (λ fs. Some (without_operands (added fs at w))) (sym (append-nil (places o))))
-operands_taken o (p ∷ os) at w fit words h =
+    ap (λ c. if c then with_operands k [] (Some text) (with_value rd 31 (without_operands w)) else ok_or (with_first o text (without_operands w)) (operand_misfit k o (trimmed (until 44 text))) >>= (λ p. with_operands (k + 1) [] p.0 p.1)) link
+    ∙ (ap (λ r. ok_or r (operand_misfit k o (trimmed (until 44 text))) >>= (λ p. with_operands (k + 1) [] p.0 p.1)) (first_taken o at w text None fit words a (until_none 44 text clear ∙ append-nil (operand_by register_read_text at o)) (after_none 44 text clear))
+    ∙ ap (λ fs. Ok (without_operands (added fs at w))) (sym (append-nil (places o))))
+operands_taken k o (p ∷ os) at w fit words h =
     let (a, b) = and_parts (is_plain o) (are_plain (p ∷ os)) h in
     let rest = operand_by register_read_text at p ++ others_by register_read_text at os in
     let text = operand_by register_read_text at o ++ 44 ∷ rest in
     let clear : list_all (is_other 44) (operand_by register_read_text at o) ≡ true = all_weaker is_clear (is_other 44) clear_other (operand_by register_read_text at o) (operand_clear o at words) in
     let link : is_link o && not (has_comma text) ≡ false = and_right (is_link o) _ (ap not (comma_there (operand_by register_read_text at o) rest clear)) in
-    ap (λ c. (if c then Some (Some text, with_value rd 31 (without_operands w)) else with_first o text (without_operands w)) >>= (λ q. with_operands (p ∷ os) q.0 q.1)) link
-    ∙ (ap (λ r. r >>= (λ q. with_operands (p ∷ os) q.0 q.1)) (first_taken o at w text (Some rest) fit words a (until_seam 44 (operand_by register_read_text at o) rest clear refl) (after_some 44 (operand_by register_read_text at o) rest clear refl))
-    ∙ (operands_taken p os at (added (places o) at w) fit words b
-    ∙ ap (λ v. Some (without_operands v)) (sym (added-append (places o) (flat_map places (p ∷ os)) at w))))
+    ap (λ c. if c then with_operands k (p ∷ os) (Some text) (with_value rd 31 (without_operands w)) else ok_or (with_first o text (without_operands w)) (operand_misfit k o (trimmed (until 44 text))) >>= (λ q. with_operands (k + 1) (p ∷ os) q.0 q.1)) link
+    ∙ (ap (λ r. ok_or r (operand_misfit k o (trimmed (until 44 text))) >>= (λ q. with_operands (k + 1) (p ∷ os) q.0 q.1)) (first_taken o at w text (Some rest) fit words a (until_seam 44 (operand_by register_read_text at o) rest clear refl) (after_some 44 (operand_by register_read_text at o) rest clear refl))
+    ∙ (operands_taken (k + 1) p os at (added (places o) at w) fit words b
+    ∙ ap (λ v. Ok (without_operands v)) (sym (added-append (places o) (flat_map places (p ∷ os)) at w))))
 
 sum_of_words : (b x y : ℕ) → ((b + x) % 2 ^ 32 + y) % 2 ^ 32 ≡ (b + (x + y)) % 2 ^ 32
 sum_of_words b x y = omega arith

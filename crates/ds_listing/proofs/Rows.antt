@@ -1,15 +1,16 @@
 -- What each row of the table writes says the word that fits the row.
-use Rattle.std.proofs.Common.{◌≡◌, ◌∙◌, ap, sym, subst, refl, inl, inr, ℕ, ◌+◌, ◌^◌, ◌<◌, ◌≤◌, true, false, ◌==◌, nat_lt, List, [], ◌∷◌, ◌++◌, length, length-append, map, Option, Some, None, option_map, arith, append-nil}
+use Rattle.std.proofs.Common.{◌≡◌, ◌∙◌, ap, sym, subst, refl, inl, inr, ℕ, ◌+◌, ◌^◌, ◌<◌, ◌≤◌, true, false, ◌==◌, nat_lt, List, [], ◌∷◌, ◌++◌, length, length-append, map, Some, None, ok_or, Ok, arith, append-nil}
 use Rattle.std.specs.List.{list_all, flat_map}
 use Rattle.std.proofs.lemmas.Bool.{cases_Bool, and_parts, eqb-true, cond-true, cond-false}
 use Rattle.std.proofs.lemmas.Fmt.{decimal_nonempty}
 use Rattle.std.proofs.Math.Nat.{zero-mod}
 use Rattle.ds_word.specs.Word.{word}
-use Rattle.ds_word.specs.OptionBinding.{◌>>=◌}
+use Rattle.ds_word.specs.ResultBinding.{◌>>=◌}
 use Rattle.ds_isa.specs.Fields.{Field, Operand, Register, LinkRegister, SystemRegister, Number, Code, Signed, Branch, Jump, Indexed, places, filled}
 use Rattle.ds_asm.specs.Forms.{form_named}
 use Rattle.ds_asm.specs.Operands.{without_operands, with_operands}
-use Rattle.ds_asm.specs.Lines.{Encoded, statement_named, line_of}
+use Rattle.ds_asm.specs.declared.syntax.SyntaxCause.TheVariants.{NoSuchName}
+use Rattle.ds_asm.specs.Lines.{Encoded, unless_empty, statement_named, line_of}
 use Rattle.ds_asm.specs.Assembly.{is_reserved_word}
 use Rattle.ds_listing.specs.Inner.Laws.{alone, Says}
 use Rattle.ds_listing.specs.Texts.{register_read_text, signed_text, operand_by, others_by, operands_by, is_left_out, instruction_by}
@@ -60,27 +61,27 @@ module _ (c : ℕ) (cs : List ℕ) (base w : ℕ) (os : List Operand) (found : f
   name_inside = let (a, b) = and_parts (list_all is_clear (c ∷ cs)) _ mnemonic in all_weaker is_clear is_inside clear_inside (c ∷ cs) a
 
   -- the statement of the name and what is left
-  named : (left : Option (List ℕ)) → statement_named (c ∷ cs) left ≡ option_map (λ i. Encoded i) (with_operands os left (without_operands base))
-  named left = named_statement c cs left mnemonic ∙ ap (λ f. option_map (λ i. Encoded i) (f >>= (λ g. with_operands g.operands left (without_operands g.word)))) found
+  named : (text : List ℕ) → statement_named (c ∷ cs) text ≡ (with_operands 1 os (unless_empty text) (without_operands base) >>= (λ i. Ok (Encoded i)))
+  named text = named_statement c cs text mnemonic ∙ ap (λ f. ok_or f NoSuchName >>= (λ g. with_operands 1 g.operands (unless_empty text) (without_operands g.word)) >>= (λ i. Ok (Encoded i))) found
 
-  alone_says : with_operands os None (without_operands base) ≡ Some (without_operands w) → is_reserved_word w ≡ false → Says (line_of (c ∷ cs)) w
+  alone_says : with_operands 1 os None (without_operands base) ≡ Ok (without_operands w) → is_reserved_word w ≡ false → Says (line_of (c ∷ cs)) w
   alone_says e r = record {
     statement = Encoded (without_operands w);
-    is = body_line (c ∷ cs) (name_body c cs name_inside) ∙ ap alone (statement_alone (c ∷ cs) name_inside ∙ (named None ∙ ap (option_map (λ i. Encoded i)) e));
+    is = body_line (c ∷ cs) (name_body c cs name_inside) ∙ ap alone (statement_alone (c ∷ cs) name_inside ∙ (named [] ∙ ap (λ r. r >>= (λ i. Ok (Encoded i))) e));
     word = encoded_word w r;
   }
 
-  with_says : (text : List ℕ) → 1 ≤ length text → list_all is_inside text ≡ true → with_operands os (Some text) (without_operands base) ≡ Some (without_operands w) → is_reserved_word w ≡ false → Says (line_of (c ∷ cs ++ 32 ∷ text)) w
+  with_says : (text : List ℕ) → 1 ≤ length text → list_all is_inside text ≡ true → with_operands 1 os (Some text) (without_operands base) ≡ Ok (without_operands w) → is_reserved_word w ≡ false → Says (line_of (c ∷ cs ++ 32 ∷ text)) w
   with_says [] some inside e r = absurd (omega arith)
   with_says (y ∷ ys) some inside e r = record {
     statement = Encoded (without_operands w);
     is = body_line (c ∷ cs ++ 32 ∷ y ∷ ys) (operands_body c cs y ys name_inside inside)
-        ∙ ap alone (statement_with (c ∷ cs) y ys name_inside inside ∙ (named (Some (y ∷ ys)) ∙ ap (option_map (λ i. Encoded i)) e));
+        ∙ ap alone (statement_with (c ∷ cs) y ys name_inside inside ∙ (named (y ∷ ys) ∙ ap (λ r. r >>= (λ i. Ok (Encoded i))) e));
     word = encoded_word w r;
   }
 
 -- no operands
-none_taken : (base : ℕ) → with_operands [] None (without_operands base) ≡ Some (without_operands base)
+none_taken : (base : ℕ) → with_operands 1 [] None (without_operands base) ≡ Ok (without_operands base)
 unfolding with_operands
 none_taken base = refl
 
@@ -89,7 +90,7 @@ first_plain o [] h = let (a, b) = and_parts (is_plain o) _ h in a
 first_plain o (p ∷ os) h = let (a, b) = and_parts (is_plain o) _ h in a
 
 -- a code of 0 that is left out
-left_out_taken : (os : List Operand) (at : Field → ℕ) (base : ℕ) → is_left_out at os ≡ true → with_operands os None (without_operands base) ≡ Some (without_operands base)
+left_out_taken : (os : List Operand) (at : Field → ℕ) (base : ℕ) → is_left_out at os ≡ true → with_operands 1 os None (without_operands base) ≡ Ok (without_operands base)
 unfolding with_operands
 left_out_taken [] at base h = cc
 left_out_taken (Code f ∷ []) at base h = refl
@@ -110,11 +111,11 @@ written_says : (c : ℕ) (cs : List ℕ) (base w : ℕ) (os : List Operand) → 
     → Says (line_of (c ∷ cs ++ operands_by register_read_text at os)) w
 written_says c cs base w [] found mnemonic at fit words plain e l r =
     subst (λ t. Says (line_of t) w) (sym (append-nil (c ∷ cs)))
-    (alone_says c cs base w [] found mnemonic (none_taken base ∙ ap (λ (v : ℕ). Some (without_operands v)) (omega arith)) r)
+    (alone_says c cs base w [] found mnemonic (none_taken base ∙ ap (λ (v : ℕ). Ok (without_operands v)) (omega arith)) r)
 written_says c cs base w (o ∷ os) found mnemonic at fit words plain e l r =
     let some = operand_some o at words (first_plain o os plain) in
     with_says c cs base w (o ∷ os) found mnemonic (operand_by register_read_text at o ++ others_by register_read_text at os) (omega (arith, length-append (operand_by register_read_text at o) (others_by register_read_text at os))) (operands_inside o os at words)
-    (operands_taken o os at base fit words plain ∙ ap (λ (v : ℕ). Some (without_operands v)) (filled_word (o ∷ os) at base w e l)) r
+    (operands_taken 1 o os at base fit words plain ∙ ap (λ (v : ℕ). Ok (without_operands v)) (filled_word (o ∷ os) at base w e l)) r
 
 pub instruction_says : (c : ℕ) (cs : List ℕ) (base w : ℕ) (os : List Operand) → form_named (c ∷ cs) ≡ Some (record { name = c ∷ cs; word = base; operands = os }) → is_mnemonic (c ∷ cs) ≡ true
     → (at : Field → ℕ) → Fit at → AreWords at → are_plain os ≡ true → w ≡ base + filled (flat_map places os) (map at (flat_map places os)) → w < 2 ^ 32 → is_reserved_word w ≡ false
@@ -125,7 +126,7 @@ instruction_says c cs base w os found mnemonic at fit words plain e l r = elim (
       let same : base ≡ w = omega arith in
       subst (λ t. Says (line_of (c ∷ cs ++ t)) w) (sym (cond-true (is_left_out at os) [] (operands_by register_read_text at os) left))
       (subst (λ t. Says (line_of t) w) (sym (append-nil (c ∷ cs)))
-      (alone_says c cs base w os found mnemonic (left_out_taken os at base left ∙ ap (λ (v : ℕ). Some (without_operands v)) same) r))
+      (alone_says c cs base w os found mnemonic (left_out_taken os at base left ∙ ap (λ (v : ℕ). Ok (without_operands v)) same) r))
   | inr kept ↦
       subst (λ t. Says (line_of (c ∷ cs ++ t)) w) (sym (cond-false (is_left_out at os) [] (operands_by register_read_text at os) kept))
       (written_says c cs base w os found mnemonic at fit words plain e l r)

@@ -1,9 +1,10 @@
 -- The text of words assembles to their bytes.
-use Rattle.std.proofs.Common.{◌≡◌, ◌∙◌, ap, sym, refl, ℕ, ◌+◌, ◌*◌, ◌%◌, ◌≤◌, false, ◌==◌, nat_lt, List, [], ◌∷◌, ◌++◌, length, length-append, map, Option, Ok, arith, append-nil, append_assoc}
+use Rattle.std.proofs.Common.{◌≡◌, ◌∙◌, ap, sym, refl, ℕ, ◌+◌, ◌*◌, ◌%◌, ◌≤◌, false, ◌==◌, nat_lt, List, [], ◌∷◌, ◌++◌, length, length-append, map, Option, Result, Ok, arith, append-nil, append_assoc}
 use Rattle.std.proofs.lemmas.Bool.{le-ltb, ne_eqb}
 use Rattle.ds_word.specs.Bytes.{bytes_of_word}
 use Rattle.ds_word.specs.Inner.Bytes.{bytes_of_words}
 use Rattle.ds_word.specs.ResultBinding.{◌>>=◌}
+use Rattle.ds_asm.specs.declared.syntax.SyntaxCause.{SyntaxCause}
 use Rattle.ds_asm.specs.Lines.{Line, line_of}
 use Rattle.ds_asm.specs.Assembly.{at_line, Layout, empty_layout, most_bytes, statement_size, sized_by, laid_line, laid_lines, line_bytes, bytes_from, lines_of, label_address, assembled}
 use Rattle.ds_asm.proofs.SourceLines.{lines_of-first}
@@ -29,7 +30,7 @@ abbrev pub plain_layout : ℕ → Layout
 plain_layout at = record { labels = []; size = at }
 
 -- the first pass over a line that says a word
-pub word_laid : (at w : ℕ) (line : Option Line) → Says line w → at % 4 ≡ 0 → at + 4 ≤ 65536 → laid_line line (plain_layout at) ≡ Ok (plain_layout (at + 4))
+pub word_laid : (at w : ℕ) (line : Result Line SyntaxCause) → Says line w → at % 4 ≡ 0 → at + 4 ≤ 65536 → laid_line line (plain_layout at) ≡ Ok (plain_layout (at + 4))
 word_laid at w line s even room =
     let fits : nat_lt most_bytes (at + 4) ≡ false = le-ltb _ _ (omega arith) in
     ap (λ x. laid_line x (plain_layout at)) s.is
@@ -37,7 +38,7 @@ word_laid at w line s even room =
     ∙ (rw (s.word.size, fits) refl))
 
 -- and the second
-pub word_added : (w at : ℕ) (find : List ℕ → Option ℕ) (line : Option Line) → Says line w → line_bytes find at line ≡ Ok (bytes_of_word w)
+pub word_added : (w at : ℕ) (find : List ℕ → Option ℕ) (line : Result Line SyntaxCause) → Says line w → line_bytes find at line ≡ Ok (bytes_of_word w)
 word_added w at find line s = ap (line_bytes find at) s.is ∙ s.word.bytes find at
 
 source_laid : (n at : ℕ) (ws : List ℕ) → EachIsRead ws → at % 4 ≡ 0 → at + 4 * length ws ≤ 65536 → laid_lines n (plain_layout at) (map text_of ws) ≡ Ok (plain_layout (at + 4 * length ws))

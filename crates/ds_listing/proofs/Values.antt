@@ -8,7 +8,7 @@ use Rattle.std.proofs.lemmas.Fmt.{length-decimal-le, decimal_nonempty}
 use Rattle.ds_word.specs.Digits.{digits_from}
 use Rattle.ds_asm.specs.Characters.{is_digit}
 use Rattle.ds_asm.specs.Numbers.{decimal_of, written_number, fits_bounds, as_word}
-use Rattle.ds_asm.specs.RegisterNames.{register_of, system_register_of}
+use Rattle.ds_asm.specs.Registers.{register_of, system_register_of}
 use Rattle.ds_listing.specs.Texts.{register_read_text, signed_text}
 use Rattle.ds_text.specs.Digits.{hex4, hex8}
 use Rattle.ds_listing.proofs.Numbers.{below, below_at, says, said, decimal_read, decimal_all, hex4_read, hex8_read, digits_end}

@@ -1,6 +1,6 @@
 -- The text of a word, with registers called by their numbers or by their common names.
 use Rattle.std.specs.Prelude.{codes, ℕ, ◌==◌, if◌then◌else◌, List, ◌∷◌, ◌++◌}
-use Rattle.ds_asm.specs.RegisterNames.{register_name}
+use Rattle.ds_text.specs.Names.{register_name}
 use Rattle.ds_listing.specs.declared.names.RegisterNames.{RegisterNames}
 use Rattle.ds_listing.specs.declared.names.RegisterNames.TheVariants.{Numbers, Common}
 use Rattle.ds_listing.specs.Sources.{elf_comment, lines_by}

@@ -11,7 +11,7 @@ use crate::sheet::Row;
 use ds_asm::{
     AsmFault, Assembled, SourceFault, assemble, assemble_or_faults, first_line, source_line,
 };
-use itoa::Buffer;
+use ds_text::Buffer;
 use std::alloc::{AllocError, Global};
 
 /// The listing of a source, or its first fault: each line with its number, and, where it has bytes,

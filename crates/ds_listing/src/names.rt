@@ -3,7 +3,7 @@ ghost use Rattle.std.specs.Prelude.{◌≡◌, ◌++◌, OnOk};
 ghost use Rattle.std.specs.String.{string_bytes};
 ghost use Rattle.ds_listing.specs.NamedTexts.{register_as};
 
-use ds_asm::register_name;
+use ds_text::register_name;
 use ds_text::string::push_decimal;
 use std::alloc::AllocError;
 

@@ -6,8 +6,8 @@ ghost use Rattle.ds_listing.specs.Inner.Plain.{plain_row};
 ghost use Rattle.ds_text.specs.Digits.{hex2};
 
 use ds_asm::ORIGIN;
+use ds_text::Buffer;
 use ds_text::sheet::{push_byte, push_hex};
-use itoa::Buffer;
 use std::alloc::AllocError;
 
 /// How wide the number of a line is at least.

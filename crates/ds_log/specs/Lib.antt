@@ -1,4 +1,3 @@
 pub mod Text
 pub mod Report
-pub mod Sent
 pub mod Inner

@@ -1,11 +1,10 @@
 //! The text that is written of a state, in pieces: no memory is taken for it.
 ghost use Rattle.std.specs.Prelude.{OnOk, OnErr, is_err, map, ◌≡◌, length};
 ghost use Rattle.std.specs.Io.KnownBytes.{Appends};
-ghost use Rattle.ds_log.specs.Sent.{AppendsPart, IsAskedOnce};
+ghost use Rattle.ds_text.specs.Sent.{AppendsPart, IsAskedOnce};
 ghost use Rattle.ds_log.specs.Report.{console_text, log_text, report_text};
 
-use crate::writes::{Output, WriteFailed, send_all};
-use itoa::Buffer;
+use ds_text::{Buffer, Output, WriteFailed, send_all};
 
 /// Hands a console's number, the count of its bytes and the bytes to a place.
 #[tactic(auto, unfolding(crate::specs::Report::console_text))]
@@ -58,7 +57,7 @@ fn send_log<O: Output>(lines: u64, log: &[u8], time: u64, out: &mut O) -> Result
 ///
 /// Where the place answers by an error, or takes nothing, it is `WriteFailed`: the place has taken a
 /// prefix of that text, and was not asked again.
-#[tactic(auto, using(crate::proofs::Sends::asked_both))]
+#[tactic(auto, using(ds_text::proofs::Sends::asked_both))]
 pub fn send_report<O: Output>(
     consoles: &[&[u8]; 4],
     lines: u64,

@@ -7,8 +7,7 @@ ghost use Rattle.ds_log.specs.Text.{line_text, kind_text, rule_text};
 use crate::line::{Denied, Line};
 use arrayvec::ArrayVec;
 use ds_policy::{OutOfMemory, Rule};
-use ds_text::hex8;
-use itoa::Buffer;
+use ds_text::{Buffer, hex8};
 
 /// Appends a line's text with its line feed, or nothing where memory runs out.
 pub fn append(text: &mut Vec<u8>, line: &Line) -> Result<(), OutOfMemory>

@@ -9,7 +9,8 @@ use Rattle.ds_packets.specs.Scanning.{data_of, or_cut, writes}
 use Rattle.ds_packets.specs.Streams.{all_came}
 use Rattle.ds_packets.specs.Inner.Streams.{IsText}
 use Rattle.ds_packets.proofs.Pieces.{came_text}
-use Rattle.ds_packets.specs.Framing.{is_special, escape, escaped, unescaped, hex_digit, hex_pair, pair_of, frame}
+use Rattle.ds_text.specs.Digits.{lower_hex_digit}
+use Rattle.ds_packets.specs.Framing.{is_special, escape, escaped, unescaped, hex_pair, pair_of, frame}
 
 -- a byte is one of the four that are escaped, or another
 pub by_special : (b : ℕ) (P : ℕ → Type 0) → P 35 → P 36 → P 42 → P 125 → ((c : ℕ) → is_special c ≡ false → c ≢ 35 → c ≢ 125 → P c) → P b
@@ -42,11 +43,11 @@ unescaped-escaped [] = refl
 unescaped-escaped (b ∷ bytes) = unescaped-escape b (escaped bytes) ∙ ap (option_map (λ more. b ∷ more)) (unescaped-escaped bytes)
 
 -- a digit of a sum is read again
-digit_again : (n : ℕ) → n < 16 → digit_of 16 (hex_digit n) ≡ Some n
+digit_again : (n : ℕ) → n < 16 → digit_of 16 (lower_hex_digit n) ≡ Some n
 digit_again n h = grind (arith, nat_tests)
 
 -- the two digits of a byte are read again
-pub pair_again : (n : ℕ) → n < 2 ^ 8 → pair_of (hex_digit (n / 16)) (hex_digit (n % 16)) ≡ Some n
+pub pair_again : (n : ℕ) → n < 2 ^ 8 → pair_of (lower_hex_digit (n / 16)) (lower_hex_digit (n % 16)) ≡ Some n
 pair_again n h = rw (digit_again (n / 16) (omega arith), digit_again (n % 16) (omega arith)) (ap (λ m. Some m) (omega arith))
 
 -- an escaped byte is no `#`
@@ -63,11 +64,11 @@ plain-escaped (b ∷ bytes) = both (escape b) (escaped bytes) (plain-escape b) (
     both (x ∷ xs) ys p q = (p.0, both xs ys p.1 q)
 
 -- a sum that is written is that sum
-same_sum : (n : ℕ) → n < 2 ^ 8 → writes (pair_of (hex_digit (n / 16)) (hex_digit (n % 16))) n ≡ true
+same_sum : (n : ℕ) → n < 2 ^ 8 → writes (pair_of (lower_hex_digit (n / 16)) (lower_hex_digit (n % 16))) n ≡ true
 same_sum n h = rw (pair_again n h) (eq-eqb n n refl)
 
 -- what a frame says
-pub said-frame : (bytes : List ℕ) → data_of (escaped bytes) (hex_digit (sum (escaped bytes) % 2 ^ 8 / 16)) (hex_digit (sum (escaped bytes) % 2 ^ 8 % 16)) ≡ Ok bytes
+pub said-frame : (bytes : List ℕ) → data_of (escaped bytes) (lower_hex_digit (sum (escaped bytes) % 2 ^ 8 / 16)) (lower_hex_digit (sum (escaped bytes) % 2 ^ 8 % 16)) ≡ Ok bytes
 said-frame bytes = rw (same_sum (sum (escaped bytes) % 2 ^ 8) (omega arith)) (ap or_cut (unescaped-escaped bytes))
 
 -- what is framed comes

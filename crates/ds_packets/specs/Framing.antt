@@ -1,6 +1,7 @@
 -- How a packet is framed: `$`, a text, `#`, and the sum of the text in two digits.
-use Rattle.std.specs.Prelude.{ℕ, ◌+◌, ◌*◌, ◌/◌, ◌%◌, ◌^◌, Bool, ◌==◌, ◌||◌, nat_lt, bit_xor, List, [], ◌∷◌, ◌++◌, flat_map, sum, Option, Some, None, option_and_then, option_map, if◌then◌else◌}
+use Rattle.std.specs.Prelude.{ℕ, ◌+◌, ◌*◌, ◌/◌, ◌%◌, ◌^◌, Bool, ◌==◌, ◌||◌, bit_xor, List, [], ◌∷◌, ◌++◌, flat_map, sum, Option, Some, None, option_and_then, option_map, if◌then◌else◌}
 use Rattle.ds_word.specs.Digits.{digit_of}
+use Rattle.ds_text.specs.Digits.{lower_hex_digit}
 
 -- `$`, `#`, `}` and `*` are escaped
 abbrev pub is_special : ℕ → Bool
@@ -24,13 +25,9 @@ unescaped (b ∷ c ∷ text) = if b == 125 then option_map (λ bytes. bit_xor c 
 abbrev pub pair_of : ℕ → ℕ → Option ℕ
 pair_of high low = option_and_then (λ h. option_map (λ l. h * 16 + l) (digit_of 16 low)) (digit_of 16 high)
 
--- a lower-case hexadecimal digit
-abbrev pub hex_digit : ℕ → ℕ
-hex_digit n = if nat_lt n 10 then 48 + n else 87 + n
-
 -- the two digits of a byte
 abbrev pub hex_pair : ℕ → List ℕ
-hex_pair n = hex_digit (n / 16) ∷ hex_digit (n % 16) ∷ []
+hex_pair n = lower_hex_digit (n / 16) ∷ lower_hex_digit (n % 16) ∷ []
 
 -- the digits of bytes, two each
 abbrev pub hex_text : List ℕ → List ℕ

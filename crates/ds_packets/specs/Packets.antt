@@ -155,28 +155,39 @@ report_of digits =
 abbrev pub digit_at : ℕ → ℕ → Option ℕ
 digit_at high low = option_and_then (digit_of 10) (pair_of high low)
 
--- a number of ticks with one digit more
-abbrev pub more_ticks : ℕ → Option ℕ → Option ℕ
-more_ticks n None = None
-more_ticks n (Some d) = if nat_le (10 * n + d) 1000000000 then Some (10 * n + d) else None
+-- a number with one digit more, up to the most ticks of a run
+abbrev pub with_digit : ℕ → Option ℕ → Option ℕ
+with_digit n None = None
+with_digit n (Some d) = if nat_le (10 * n + d) 1000000000 then Some (10 * n + d) else None
 
--- the number of ticks that goes on with these decimal digits, each of which two hexadecimal digits write
-unfoldable pub ticks_from : ℕ → List ℕ → Option ℕ
-ticks_from n [] = Some n
-ticks_from n (high ∷ []) = None
-ticks_from n (high ∷ low ∷ rest) = option_and_then (λ t. ticks_from t rest) (more_ticks n (digit_at high low))
+-- the number that goes on with these decimal digits, each of which two hexadecimal digits write
+unfoldable pub number_from : ℕ → List ℕ → Option ℕ
+number_from n [] = Some n
+number_from n (high ∷ []) = None
+number_from n (high ∷ low ∷ rest) = option_and_then (λ t. number_from t rest) (with_digit n (digit_at high low))
 
 -- that of one digit at least
-abbrev pub ticks_written : List ℕ → Option ℕ
-ticks_written [] = None
-ticks_written (high ∷ rest) = ticks_from 0 (high ∷ rest)
+abbrev pub number_written : List ℕ → Option ℕ
+number_written [] = None
+number_written (high ∷ rest) = number_from 0 (high ∷ rest)
 
--- a time at which a run is to stop
+-- the entries of the process of a number
+abbrev pub entries_asked : List ℕ → Option Packet
+entries_asked digits = option_map (λ p. Monitor (report.TableOf p)) (number_written digits)
+
+-- the entries of a process, by its number
+abbrev pub table_asked : List ℕ → Result Packet Refusal
+table_asked digits =
+    if nat_lt (length digits) 12 then Err Unknown
+    else if bytes_eq (take 12 digits) (hex_text (codes "table ")) then packet_read (entries_asked (drop 12 digits))
+    else Err Unknown
+
+-- a time at which a run is to stop, or the entries of a process
 abbrev pub stop_asked : List ℕ → Result Packet Refusal
 stop_asked digits =
     if nat_lt (length digits) 10 then Err Unknown
-    else if bytes_eq (take 10 digits) (hex_text (codes "stop ")) then packet_read (option_map (λ t. StopAt t) (ticks_written (drop 10 digits)))
-    else Err Unknown
+    else if bytes_eq (take 10 digits) (hex_text (codes "stop ")) then packet_read (option_map (λ t. StopAt t) (number_written (drop 10 digits)))
+    else table_asked digits
 
 -- a report that is known, or a time at which a run is to stop
 abbrev pub monitored : Option Report → List ℕ → Result Packet Refusal

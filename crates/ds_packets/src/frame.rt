@@ -1,28 +1,17 @@
 //! Packets that go out.
 ghost use Rattle.std.specs.Prelude.{◌≡◌, ◌<◌, ◌+◌, ◌%◌, ◌^◌, ◌++◌, ◌∷◌, [], sum, OnOk, IfOk};
-ghost use Rattle.ds_packets.specs.Framing.{escape, frame, hex_digit, hex_text};
+ghost use Rattle.ds_packets.specs.Framing.{escape, frame, hex_text};
 
+use ds_text::lower_hex_digit;
 use std::alloc::AllocError;
-
-/// A lower-case hexadecimal digit.
-pub fn hex_digit(value: u8) -> u8
-    requires { value < 16 }
-    ensures { result ≡ hex_digit value }
-{
-    if value < 10 {
-        b'0' + value
-    } else {
-        b'a' - 10 + value
-    }
-}
 
 /// Adds bytes in hexadecimal digits, two each.
 pub fn push_hex(out: &mut Vec<u8>, bytes: &[u8]) -> Result<(), AllocError>
     ensures { OnOk result (out.new.items ≡ out.old.items ++ hex_text bytes.now) }
 {
     for byte in bytes {
-        out.push(hex_digit(*byte / 16))?;
-        out.push(hex_digit(*byte % 16))?;
+        out.push(lower_hex_digit(*byte / 16))?;
+        out.push(lower_hex_digit(*byte % 16))?;
     }
     Ok(())
 }
@@ -59,7 +48,7 @@ pub fn push_frame(out: &mut Vec<u8>, bytes: &[u8]) -> Result<(), AllocError>
         total = push_escaped(out, total, *byte)?;
     }
     out.push(b'#')?;
-    out.push(hex_digit(total / 16))?;
-    out.push(hex_digit(total % 16))?;
+    out.push(lower_hex_digit(total / 16))?;
+    out.push(lower_hex_digit(total % 16))?;
     Ok(())
 }

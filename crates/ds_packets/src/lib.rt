@@ -10,7 +10,7 @@ mod scan;
 mod words;
 
 pub use data::{Data, MOST_DATA};
-pub use frame::{hex_digit, push_frame, push_hex};
+pub use frame::{push_frame, push_hex};
 pub use laws::{what_a_stream_says, what_is_framed_comes};
 pub use packet::{Action, Packet, Refusal, Report, Who};
 pub use reading::{action_for, names_process};

@@ -35,6 +35,8 @@ pub enum Report {
     Console(u8),
     /// `table`: the entries of the permission table.
     Table,
+    /// `table P`: those of a process, by its number.
+    TableOf(u64),
 }
 
 /// A packet that is known.

@@ -1,7 +1,7 @@
 //! Packets, read by their names and forms.
 ghost use Rattle.std.specs.Prelude.{◌≡◌, ◌<◌, ◌≤◌, IfSome};
 ghost use Rattle.ds_packets.specs.Words.{pair_at};
-ghost use Rattle.ds_packets.specs.Packets.{action_for, action_of, after_comma, after_semicolon, alive, alone, back_of, breakpoint, chosen, described, digit_at, forward, has_long_name, is_feature, is_multiple, is_signal, lettered, looked, more_ticks, named_packet, names_process, packet_of, report_of, thread_info, resumed, seen, step_of, stop_asked, stopped_at, ticks_from, ticks_written, packet_read, watchpoint, with_arguments};
+ghost use Rattle.ds_packets.specs.Packets.{action_for, action_of, after_comma, after_semicolon, alive, alone, back_of, breakpoint, chosen, described, digit_at, forward, has_long_name, is_feature, is_multiple, is_signal, lettered, looked, with_digit, named_packet, names_process, packet_of, report_of, thread_info, resumed, seen, step_of, stop_asked, table_asked, entries_asked, stopped_at, number_from, number_written, packet_read, watchpoint, with_arguments};
 
 use crate::packet::{Action, Packet, Refusal, Report, Who};
 use crate::scan::pair_of;
@@ -310,60 +310,80 @@ fn digit_at(high: u8, low: u8) -> Option<u64>
     digit_of(10, pair_of(high, low)?)
 }
 
-/// A number of ticks with one digit more.
-fn more_ticks(ticks: u64, digit: Option<u64>) -> Option<u64>
-    requires few { ticks ≤ 1000000000 }
+/// A number with one digit more, up to the most ticks of a run.
+fn with_digit(number: u64, digit: Option<u64>) -> Option<u64>
+    requires few { number ≤ 1000000000 }
     requires small { IfSome digit (λ d. d < 16) }
-    ensures value { result ≡ more_ticks ticks digit }
+    ensures value { result ≡ with_digit number digit }
     ensures few { IfSome result (λ t. t ≤ 1000000000) }
 {
     match digit {
         Some(digit) => {
-            let more = 10 * ticks + digit;
+            let more = 10 * number + digit;
             if more <= MOST_TICKS { Some(more) } else { None }
         }
         None => None,
     }
 }
 
-/// A number of ticks in decimal digits, two hexadecimal digits each.
-#[tactic(auto, unfolding(crate::specs::Packets::ticks_from))]
-fn ticks_from(digits: &[u8]) -> Option<u64>
-    ensures { result ≡ ticks_from 0 digits.now }
+/// A number in decimal digits, two hexadecimal digits each.
+#[tactic(auto, unfolding(crate::specs::Packets::number_from))]
+fn number_from(digits: &[u8]) -> Option<u64>
+    ensures { result ≡ number_from 0 digits.now }
 {
-    let mut ticks = 0;
+    let mut number = 0;
     let mut left = digits;
     while let [high, low, rest @ ..] = left {
-        match more_ticks(ticks, digit_at(*high, *low)) {
-            Some(more) => ticks = more,
+        match with_digit(number, digit_at(*high, *low)) {
+            Some(more) => number = more,
             None => return None,
         }
         left = rest;
     }
-    if left.is_empty() { Some(ticks) } else { None }
+    if left.is_empty() { Some(number) } else { None }
 }
 
 /// That of one digit at least.
-fn ticks_written(digits: &[u8]) -> Option<u64>
-    ensures { result ≡ ticks_written digits.now }
+fn number_written(digits: &[u8]) -> Option<u64>
+    ensures { result ≡ number_written digits.now }
 {
     match digits {
         [] => None,
-        _ => ticks_from(digits),
+        _ => number_from(digits),
     }
 }
 
-/// A time at which a run is to stop.
+/// A time at which a run is to stop, or the entries of a process.
 fn stop_asked(digits: &[u8]) -> Result<Packet, Refusal>
     ensures { result ≡ stop_asked digits.now }
 {
     if digits.len() < 10 {
         Err(Refusal::Unknown)
     } else if &digits[..10] == b"73746f7020".as_slice() {
-        match ticks_written(&digits[10..]) {
+        match number_written(&digits[10..]) {
             Some(ticks) => Ok(Packet::StopAt(ticks)),
             None => Err(Refusal::Malformed),
         }
+    } else {
+        table_asked(digits)
+    }
+}
+
+/// The entries of the process of a number.
+fn entries_asked(digits: &[u8]) -> Option<Packet>
+    ensures { result ≡ entries_asked digits.now }
+{
+    Some(Packet::Monitor(Report::TableOf(number_written(digits)?)))
+}
+
+/// The entries of a process, by its number.
+fn table_asked(digits: &[u8]) -> Result<Packet, Refusal>
+    ensures { result ≡ table_asked digits.now }
+{
+    if digits.len() < 12 {
+        Err(Refusal::Unknown)
+    } else if &digits[..12] == b"7461626c6520".as_slice() {
+        packet_read(entries_asked(&digits[12..]))
     } else {
         Err(Refusal::Unknown)
     }

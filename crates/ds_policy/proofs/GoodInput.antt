@@ -1,5 +1,6 @@
 -- What is true of each input that was read: each event keeps it.
 use Rattle.std.proofs.Common.{◌≡◌, ◌∙◌, sym, ap, subst, refl, ℕ, ◌+◌, ◌*◌, ◌-◌, ◌<◌, ◌≤◌, ◌&&◌, Bool, true, false, nat_le, nat_lt, codes, bytes_eq, List, [], ◌∷◌, ◌++◌, length, Some, None, Result, if◌then◌else◌, Ok, Err, arith, inl, inr, append-nil, append_assoc, length-append}
+use Rattle.ds_text.specs.Words.{read_word, write_word, grant_word, narrow_word, revoke_word, drop_word, resume_word, stop_word}
 use Rattle.std.proofs.lemmas.List.{get_or_append_left, get_or_push}
 use Rattle.std.proofs.lemmas.List.Elements.{All-nil, All-push, All-weaker, All-get_or}
 use Rattle.std.proofs.lemmas.List.Sorted.{IsNonDecreasingBy-push, IsNonDecreasingBy-short}
@@ -80,9 +81,9 @@ keys_good pages (l ∷ digits ∷ []) e h =
 keys_good pages (l ∷ digits ∷ more ∷ rest) e h = cc
 
 right_given : (word : List ℕ) (right : Right) → right_of word ≡ Some right → is_some_right right ≡ true
-right_given word right h = elim (cases_Bool (bytes_eq word (codes "read"))) [
+right_given word right h = elim (cases_Bool (bytes_eq word read_word)) [
   | inl read ↦ let same : Some Read ≡ Some right = rw read at h in let is : Read ≡ right = cc in subst (λ r. is_some_right r ≡ true) is refl
-  | inr other ↦ elim (cases_Bool (bytes_eq word (codes "write"))) [
+  | inr other ↦ elim (cases_Bool (bytes_eq word write_word)) [
     | inl write ↦ let same : Some Write ≡ Some right = rw (other, write) at h in let is : Write ≡ right = cc in subst (λ r. is_some_right r ≡ true) is refl
     | inr neither ↦ let none : None ≡ Some right = rw (other, neither) at h in cc
   ]
@@ -132,12 +133,12 @@ command_good : (pages : List PolicyPage) (verb : List ℕ) (words : List (List �
 unfolding command_of
 command_good pages verb words c h =
     let n = length pages in
-    by_verb (bytes_eq verb (codes "grant")) _ _ _ _ (grant_good pages words c)
-    (by_verb (bytes_eq verb (codes "narrow")) _ _ _ _ (made_good n (entry_in words) (λ e. Narrow e.process e.address) c (λ e. tt))
-    (by_verb (bytes_eq verb (codes "revoke")) _ _ _ _ (made_good n (entry_in words) (λ e. Revoke e.process e.address) c (λ e. tt))
-    (by_verb (bytes_eq verb (codes "drop")) _ _ _ _ (made_good n (entry_in words) (λ e. Drop e.process e.address) c (λ e. tt))
-    (by_verb (bytes_eq verb (codes "resume")) _ _ _ _ (made_good n (process_in words) (λ p. Resume p) c (λ p. tt))
-    (by_verb (bytes_eq verb (codes "stop")) _ _ _ _ (made_good n (process_in words) (λ p. Stop p) c (λ p. tt)) (λ none. cc)))))) h
+    by_verb (bytes_eq verb grant_word) _ _ _ _ (grant_good pages words c)
+    (by_verb (bytes_eq verb narrow_word) _ _ _ _ (made_good n (entry_in words) (λ e. Narrow e.process e.address) c (λ e. tt))
+    (by_verb (bytes_eq verb revoke_word) _ _ _ _ (made_good n (entry_in words) (λ e. Revoke e.process e.address) c (λ e. tt))
+    (by_verb (bytes_eq verb drop_word) _ _ _ _ (made_good n (entry_in words) (λ e. Drop e.process e.address) c (λ e. tt))
+    (by_verb (bytes_eq verb resume_word) _ _ _ _ (made_good n (process_in words) (λ p. Resume p) c (λ p. tt))
+    (by_verb (bytes_eq verb stop_word) _ _ _ _ (made_good n (process_in words) (λ p. Stop p) c (λ p. tt)) (λ none. cc)))))) h
 
 event_is_good : (pages : List PolicyPage) (words : List (List ℕ)) (e : Event) → event_in pages words ≡ Ok e → IsGoodFor (length pages) e
 event_is_good pages [] e h = cc

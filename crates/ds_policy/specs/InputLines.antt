@@ -1,6 +1,7 @@
 -- What a line of an input says.
 use Rattle.std.specs.Prelude.{codes, ℕ, ◌-◌, ◌^◌, Bool, true, false, ◌&&◌, nat_le, bytes_eq, ◌==◌, List, [], ◌∷◌, Option, Some, None, Result, Ok, Err, if◌then◌else◌}
 use Rattle.std.specs.List.{slice_split}
+use Rattle.ds_text.specs.Words.{read_word, write_word, grant_word, narrow_word, revoke_word, drop_word, resume_word, stop_word}
 use Rattle.ds_word.specs.ResultBinding.{◌>>=◌}
 use Rattle.ds_policy.specs.declared.command.Command.{Command}
 use Rattle.ds_policy.specs.declared.command.Command.TheVariants.{Grant, Narrow, Revoke, Drop, Resume, Stop}
@@ -32,7 +33,7 @@ console_line_of _ = None
 
 -- the right that a command's word names
 abbrev pub right_of : List ℕ → Option Right
-right_of word = if bytes_eq word (codes "read") then Some Read else if bytes_eq word (codes "write") then Some Write else None
+right_of word = if bytes_eq word read_word then Some Read else if bytes_eq word write_word then Some Write else None
 
 -- a process and an address
 abbrev pub entry_place_of : List ℕ → List ℕ → Result EntryPlace InputCause
@@ -75,12 +76,12 @@ process_in _ = Err WordCount
 -- the command of a verb and the words after it
 unfoldable pub command_of : List PolicyPage → List ℕ → List (List ℕ) → Result Command InputCause
 command_of pages verb words =
-    if bytes_eq verb (codes "grant") then grant_command_of pages words
-    else if bytes_eq verb (codes "narrow") then entry_in words >>= (λ e. Ok (Narrow e.process e.address))
-    else if bytes_eq verb (codes "revoke") then entry_in words >>= (λ e. Ok (Revoke e.process e.address))
-    else if bytes_eq verb (codes "drop") then entry_in words >>= (λ e. Ok (Drop e.process e.address))
-    else if bytes_eq verb (codes "resume") then process_in words >>= (λ p. Ok (Resume p))
-    else if bytes_eq verb (codes "stop") then process_in words >>= (λ p. Ok (Stop p))
+    if bytes_eq verb grant_word then grant_command_of pages words
+    else if bytes_eq verb narrow_word then entry_in words >>= (λ e. Ok (Narrow e.process e.address))
+    else if bytes_eq verb revoke_word then entry_in words >>= (λ e. Ok (Revoke e.process e.address))
+    else if bytes_eq verb drop_word then entry_in words >>= (λ e. Ok (Drop e.process e.address))
+    else if bytes_eq verb resume_word then process_in words >>= (λ p. Ok (Resume p))
+    else if bytes_eq verb stop_word then process_in words >>= (λ p. Ok (Stop p))
     else Err UnknownEvent
 
 -- the characters of the words after `key`

@@ -1,5 +1,6 @@
 -- What the parts of a policy's document mean.
 use Rattle.std.specs.Prelude.{codes, ℕ, pos, Bool, false, not, ◌&&◌, ◌||◌, ◌==◌, ◌%◌, ◌^◌, ◌-◌, nat_le, nat_lt, bytes_eq, List, [], ◌∷◌, length, map, filter, Option, Some, None, is_some, count_by, position, option_map, Result, Ok, Err, if◌then◌else◌}
+use Rattle.ds_text.specs.Words.{none_word, read_word, write_word}
 use Rattle.std.specs.List.{list_any, list_all}
 use Rattle.ds_word.specs.ResultBinding.{◌>>=◌}
 use Rattle.toml.specs.Data.{Data, integer, Members, get_member, as_table, as_bool}
@@ -91,7 +92,7 @@ page_named pages name = position (λ (p : PolicyPage). bytes_eq p.name name) pag
 
 -- the right that a rule's text names
 abbrev pub right_named : List ℕ → Option Right
-right_named text = if bytes_eq text (codes "none") then Some Nothing else if bytes_eq text (codes "read") then Some Read else if bytes_eq text (codes "write") then Some Write else None
+right_named text = if bytes_eq text none_word then Some Nothing else if bytes_eq text read_word then Some Read else if bytes_eq text write_word then Some Write else None
 
 -- a flag that may be absent
 abbrev pub flag_of : Option Data → Option Bool

@@ -1,6 +1,7 @@
 -- The words of rights and of commands.
 use Rattle.std.specs.Prelude.{codes, decimal, ℕ, List, [], ◌++◌, Option, None, Some}
 use Rattle.ds_text.specs.Digits.{hex8}
+use Rattle.ds_text.specs.Words.{none_word, read_word, write_word, grant_word, narrow_word, revoke_word, drop_word, resume_word, stop_word}
 use Rattle.ds_policy.specs.declared.command.Command.{Command}
 use Rattle.ds_policy.specs.declared.command.Command.TheVariants.{Grant, Narrow, Revoke, Drop, Resume, Stop}
 use Rattle.ds_policy.specs.declared.grant.Right.{Right}
@@ -8,18 +9,18 @@ use Rattle.ds_policy.specs.declared.grant.Right.TheVariants.{Nothing, Read, Writ
 
 -- the word for a right
 abbrev pub right_word : Right → List ℕ
-right_word Nothing = codes "none"
-right_word Read = codes "read"
-right_word Write = codes "write"
+right_word Nothing = none_word
+right_word Read = read_word
+right_word Write = write_word
 
 -- the word with which a command begins
 abbrev pub verb_of : Command → List ℕ
-verb_of (Grant process address page right give) = codes "grant"
-verb_of (Narrow process address) = codes "narrow"
-verb_of (Revoke process address) = codes "revoke"
-verb_of (Drop process address) = codes "drop"
-verb_of (Resume process) = codes "resume"
-verb_of (Stop process) = codes "stop"
+verb_of (Grant process address page right give) = grant_word
+verb_of (Narrow process address) = narrow_word
+verb_of (Revoke process address) = revoke_word
+verb_of (Drop process address) = drop_word
+verb_of (Resume process) = resume_word
+verb_of (Stop process) = stop_word
 
 -- the process that a command names
 abbrev pub process_of_command : Command → ℕ

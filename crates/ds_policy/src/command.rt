@@ -3,6 +3,7 @@ ghost use Rattle.std.specs.Prelude.{◌≡◌};
 ghost use Rattle.ds_policy.specs.Words.{address_of_command, process_of_command, verb_of};
 
 use crate::grant::Right;
+use ds_text::words;
 
 /// A command of the operator.
 #[derive(Clone, Copy, Debug, PartialEq, Eq)]
@@ -46,12 +47,12 @@ impl Command {
         ensures { result.now ≡ verb_of self }
     {
         match self {
-            Command::Grant { .. } => "grant",
-            Command::Narrow { .. } => "narrow",
-            Command::Revoke { .. } => "revoke",
-            Command::Drop { .. } => "drop",
-            Command::Resume { .. } => "resume",
-            Command::Stop { .. } => "stop",
+            Command::Grant { .. } => words::GRANT,
+            Command::Narrow { .. } => words::NARROW,
+            Command::Revoke { .. } => words::REVOKE,
+            Command::Drop { .. } => words::DROP,
+            Command::Resume { .. } => words::RESUME,
+            Command::Stop { .. } => words::STOP,
         }
     }
 

@@ -3,6 +3,8 @@ ghost use Rattle.std.specs.Prelude.{◌≡◌};
 ghost use Rattle.ds_policy.specs.Grants.{forbidden_by};
 ghost use Rattle.ds_policy.specs.Words.{right_word};
 
+use ds_text::words;
+
 /// What an entry allows.
 #[derive(Clone, Copy, Debug, PartialEq, Eq)]
 pub enum Right {
@@ -17,9 +19,9 @@ impl Right {
         ensures { result.now ≡ right_word self }
     {
         match self {
-            Right::Nothing => "none",
-            Right::Read => "read",
-            Right::Write => "write",
+            Right::Nothing => words::NONE,
+            Right::Read => words::READ,
+            Right::Write => words::WRITE,
         }
     }
 }

@@ -1,5 +1,5 @@
 -- A source in the place of a policy, and a policy in the place of a source.
-use Rattle.std.specs.Prelude.{ℕ, Bool, false, not, ◌&&◌, ◌==◌, if◌then◌else◌, List, [], ◌∷◌, length, Option, None, Some, is_some}
+use Rattle.std.specs.Prelude.{ℕ, Bool, false, not, ◌&&◌, ◌==◌, if◌then◌else◌, List, [], ◌∷◌, length, Option, None, Some, is_ok}
 use Rattle.ds_asm.specs.Assembly.{lines_of}
 use Rattle.ds_asm.specs.Characters.{trimmed, until}
 use Rattle.ds_asm.specs.Lines.{line_of}
@@ -16,7 +16,7 @@ first_said (line ∷ lines) = if is_silent line then first_said lines else line
 
 -- whether the first line that says something is one that the assembler reads
 unfoldable pub reads_as_source : List ℕ → Bool
-reads_as_source text = not (is_silent (first_said (lines_of text))) && is_some (line_of (first_said (lines_of text)))
+reads_as_source text = not (is_silent (first_said (lines_of text))) && is_ok (line_of (first_said (lines_of text)))
 
 -- whether a key may be there that a policy has
 abbrev pub is_key_there : Option (List ℕ) → Bool

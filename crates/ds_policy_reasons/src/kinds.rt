@@ -1,12 +1,11 @@
 //! A source in the place of a policy, and a policy in the place of a source.
-ghost use Rattle.std.specs.Prelude.{◌≡◌, is_some, option_map};
+ghost use Rattle.std.specs.Prelude.{◌≡◌, is_ok, option_map};
 ghost use Rattle.ds_asm.specs.Assembly.{lines_of};
 ghost use Rattle.ds_asm.specs.Lines.{line_of};
 ghost use Rattle.ds_policy_reasons.specs.Kinds.{first_said, is_key_there, is_silent, reads_as_policy, reads_as_source};
 
 use crate::keys::{is_key, key_in, key_text};
-use ds_asm::{first_line, trimmed, until};
-use ds_source_reasons::syntax_reason;
+use ds_asm::{first_line, line_of, trimmed, until};
 
 /// Whether a text reads as a source: the assembler reads the first line of it that says something
 /// before its comment. No line of a TOML document is read so.
@@ -39,9 +38,9 @@ fn is_key_there(key: Option<&[u8]>) -> bool
 
 /// Whether the assembler reads a line.
 fn is_read(line: &[u8]) -> bool
-    ensures { result ≡ is_some (line_of line.now) }
+    ensures { result ≡ is_ok (line_of line.now) }
 {
-    syntax_reason(line).is_none()
+    matches!(line_of(line), Ok(_))
 }
 
 /// Whether a line says nothing before its comment.

@@ -1,4 +1,3 @@
-pub mod Operands
 pub mod Reasons
 pub mod Ranges
 pub mod Texts

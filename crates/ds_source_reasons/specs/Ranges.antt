@@ -1,11 +1,12 @@
 -- Why a statement that can be read may not stand where it stands.
-use Rattle.std.specs.Prelude.{ℕ, ◌-◌, not, ◌==◌, List, length, drop, Option, Some, None, option_map, unwrap_or}
+use Rattle.std.specs.Prelude.{ℕ, ◌-◌, not, ◌==◌, List, length, drop, Option, Some, None, option_map, unwrap_or, Result, Ok, Err}
 use Rattle.std.specs.List.{suffix_len}
-use Rattle.ds_asm.specs.Characters.{trimmed, until}
+use Rattle.ds_asm.specs.Characters.{first_word, after_word, trimmed, until}
 use Rattle.ds_asm.specs.declared.cause.Cause.{Cause}
 use Rattle.ds_asm.specs.declared.cause.Cause.TheVariants as cause
+use Rattle.ds_asm.specs.declared.syntax.SyntaxCause.{SyntaxCause}
 use Rattle.ds_asm.specs.Operands as operands
-use Rattle.ds_asm.specs.Lines.{Statement, Encoded, WordNumber, WordLabel, Byte, Space, Line, mnemonic_of, after_word, line_of}
+use Rattle.ds_asm.specs.Lines.{Statement, Encoded, WordNumber, WordLabel, Byte, Space, Line, line_of}
 use Rattle.ds_asm.specs.Assembly.{cause_at}
 use Rattle.ds_source_reasons.specs.Reasons.{statement_text}
 
@@ -40,9 +41,9 @@ label_gone_to (Some (Byte n)) = None
 label_gone_to (Some (Space n)) = None
 
 -- the label that a line's statement goes to
-abbrev pub target_in : Option Line → Option (List ℕ)
-target_in None = None
-target_in (Some line) = label_gone_to line.statement
+abbrev pub target_in : Result Line SyntaxCause → Option (List ℕ)
+target_in (Err why) = None
+target_in (Ok line) = label_gone_to line.statement
 
 -- the reason of a line whose target can't be reached
 abbrev pub target_reason_of : List ℕ → Option RangeReason
@@ -58,7 +59,7 @@ said_statement line = statement_text (trimmed (until 35 line))
 abbrev pub range_by : ℕ → List ℕ → Cause → Option RangeReason
 range_by at line (cause.OutOfRange b) = Some (OutOfRange (number_text (after_word (said_statement line))) b.least b.most)
 range_by at line cause.NotAligned = Some (NotAligned at)
-range_by at line cause.Reserved = Some (Reserved (mnemonic_of (said_statement line)))
+range_by at line cause.Reserved = Some (Reserved (first_word (said_statement line)))
 range_by at line cause.OutOfReach = target_reason_of line
 range_by at line _ = None
 
@@ -68,9 +69,9 @@ statement_cause at None = None
 statement_cause at (Some s) = cause_at at s
 
 -- the same of a line, where it can be read
-abbrev pub cause_in : ℕ → Option Line → Option Cause
-cause_in at None = None
-cause_in at (Some line) = statement_cause at line.statement
+abbrev pub cause_in : ℕ → Result Line SyntaxCause → Option Cause
+cause_in at (Err why) = None
+cause_in at (Ok line) = statement_cause at line.statement
 
 -- the cause of a line that is refused as out of range at a place: that against its statement, or else against its target
 abbrev pub range_cause : ℕ → List ℕ → Cause

@@ -1,8 +1,8 @@
 -- The words in which a reason is told.
-use Rattle.std.specs.Prelude.{codes, decimal, ℕ, ◌-◌, ◌%◌, Bool, ◌&&◌, ◌||◌, ◌==◌, nat_le, nat_lt, bytes_eq, position, if◌then◌else◌, List, [], ◌∷◌, ◌++◌, map, take, Option, Some, None}
+use Rattle.std.specs.Prelude.{codes, decimal, ℕ, ◌-◌, ◌%◌, Bool, ◌&&◌, ◌||◌, ◌==◌, nat_le, nat_lt, bytes_eq, position, if◌then◌else◌, List, [], ◌∷◌, ◌++◌, map, take, Option, Some, None, unwrap_or}
 use Rattle.std.specs.List.{ends_with, list_any, slice_get}
-use Rattle.ds_source_reasons.specs.declared.reason.Wanted.{Wanted}
-use Rattle.ds_source_reasons.specs.declared.reason.Wanted.TheVariants as wanted
+use Rattle.ds_asm.specs.declared.syntax.Wanted.{Wanted}
+use Rattle.ds_asm.specs.declared.syntax.Wanted.TheVariants as wanted
 use Rattle.ds_source_reasons.specs.declared.elsewhere.TheConstants.{MIPS_II, MIPS_III, MIPS_IV, MIPS_32, FLOATING_POINT, COPROCESSORS}
 use Rattle.ds_source_reasons.specs.declared.macros.TheConstants.{MACROS, MACROS_INSTEAD, DIRECTIVES, DIRECTIVES_INSTEAD, OTHERS, OTHERS_INSTEAD, OTHER_DIRECTIVE}
 use Rattle.ds_source_reasons.specs.declared.texts.TheConstants as texts
@@ -21,15 +21,10 @@ shown_front text = map visible (take 40 text)
 abbrev pub quoted : List ℕ → List ℕ → List ℕ → List ℕ
 quoted front text back = front ++ shown_front text ++ back
 
--- a text that may be there, or another
-abbrev pub text_or : Option (List ℕ) → List ℕ → List ℕ
-text_or None other = other
-text_or (Some text) other = text
-
 -- the text at a place, or another where there is no place
 abbrev pub at_place : Option ℕ → List (List ℕ) → List ℕ → List ℕ
 at_place None texts other = other
-at_place (Some place) texts other = text_or (slice_get texts place) other
+at_place (Some place) texts other = unwrap_or (slice_get texts place) other
 
 -- what is said after the name of a macro: the text at the place of the name
 unfoldable pub macro_instead : List ℕ → List ℕ

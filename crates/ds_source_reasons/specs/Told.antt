@@ -1,11 +1,11 @@
 -- The reasons of the faults of a source.
-use Rattle.std.specs.Prelude.{ℕ, zero, suc, ◌+◌, ◌%◌, ◌==◌, List, Option, None, Some, option_map}
+use Rattle.std.specs.Prelude.{ℕ, zero, suc, ◌+◌, ◌%◌, ◌==◌, List, Option, None, option_map}
 use Rattle.std.specs.List.{before_first, after_first}
 use Rattle.ds_asm.specs.declared.fault.SourceFault.{SourceFault}
 use Rattle.ds_asm.specs.declared.fault.SourceFault.TheVariants as fault
 use Rattle.ds_asm.specs.Faults.{size_in}
 use Rattle.ds_asm.specs.Lines.{line_of}
-use Rattle.ds_source_reasons.specs.Reasons.{Reason, unread_reason}
+use Rattle.ds_source_reasons.specs.Reasons.{Reason, reason_of}
 use Rattle.ds_source_reasons.specs.Ranges.{RangeReason, range_by, range_cause}
 use Rattle.ds_source_reasons.specs.Texts.{reason_text, range_text}
 
@@ -16,7 +16,7 @@ pub data FaultReason : Type 0 where
 
 -- the reason of a fault of a line that begins at a place of the image
 abbrev pub told_reason : SourceFault → ℕ → List ℕ → Option FaultReason
-told_reason (fault.Syntax n) place line = Some (Unread (unread_reason line))
+told_reason (fault.Syntax n) place line = option_map (λ why. Unread why) (reason_of line)
 told_reason (fault.Range n) place line = option_map (λ why. OutOf why) (range_by place line (range_cause place line))
 told_reason (fault.UnknownLabel n) place line = None
 told_reason (fault.DoubleLabel n) place line = None

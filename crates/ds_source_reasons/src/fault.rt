@@ -4,7 +4,7 @@ ghost use Rattle.ds_asm.specs.Assembling.{source_fault_line};
 ghost use Rattle.ds_source_reasons.specs.Told.{after_line, after_lines, fault_text, line_after, offset_after, fault_reason_at, told_reason};
 ghost use Rattle.ds_source_reasons.specs.Inner.Told.{plain_fault};
 
-use crate::line::unread_reason;
+use crate::line::syntax_reason;
 use crate::range::{range_by, range_cause};
 use crate::reason::{RangeReason, SyntaxReason};
 use crate::told::{push_range_reason, push_syntax_reason};
@@ -86,7 +86,7 @@ pub fn fault_reason(fault: SourceFault, place: u64, line: &[u8]) -> Option<Fault
     ensures { option_map plain_fault result ≡ told_reason fault place line.now }
 {
     match fault {
-        SourceFault::Syntax(_) => Some(FaultReason::Syntax(unread_reason(line))),
+        SourceFault::Syntax(_) => Some(FaultReason::Syntax(syntax_reason(line)?)),
         SourceFault::Range(_) => {
             let cause = range_cause(place, line);
             Some(FaultReason::Range(range_by(place, line, cause)?))

@@ -1,13 +1,15 @@
 //! Where there are reasons.
-ghost use Rattle.std.specs.Prelude.{◌≡◌, ◌≤◌, ◌==◌, ◌+◌, ◌%◌, ℕ, not, is_some};
+ghost use Rattle.std.specs.Prelude.{◌≡◌, ◌≤◌, ◌==◌, ◌+◌, ◌%◌, ℕ, is_err, is_some};
 ghost use Rattle.ds_asm.specs.Assembly.{branch_field, jump_field, origin};
 ghost use Rattle.ds_asm.specs.Lines.{line_of};
 ghost use Rattle.ds_source_reasons.specs.Ranges.{cause_in};
-ghost use Rattle.ds_source_reasons.specs.Inner.Reasons.{range_reason_of, reason_of};
+ghost use Rattle.ds_source_reasons.specs.Inner.Reasons.{range_reason_of};
+ghost use Rattle.ds_source_reasons.specs.Reasons.{reason_of};
 
-/// The law that a line has a reason exactly where the assembler reads nothing from it.
+/// The law that a line has a reason exactly where the assembler answers a cause.
+#[tactic(auto, unfolding(crate::specs::Reasons::reason_of))]
 pub fn a_reason_is_a_syntax_fault(line: &[u8])
-    ensures { is_some (reason_of line.now) ≡ not (is_some (line_of line.now)) }
+    ensures { is_some (reason_of line.now) ≡ is_err (line_of line.now) }
 {}
 
 /// The law that the statement of a line has a reason exactly where the assembler can read it and

@@ -13,7 +13,6 @@ mod missing;
 mod operand;
 mod range;
 mod reason;
-mod statement;
 mod texts;
 mod told;
 
@@ -27,5 +26,5 @@ pub use likeness::is_like;
 pub use line::syntax_reason;
 pub use missing::{Labelled, last_word, last_word_place, like_label, push_missing};
 pub use range::{range_reason, target_reason};
-pub use reason::{RangeReason, SyntaxReason, Wanted};
+pub use reason::{RangeReason, SyntaxReason};
 pub use told::{push_range_reason, push_syntax_reason};

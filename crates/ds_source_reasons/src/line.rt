@@ -2,40 +2,31 @@
 ghost use Rattle.std.specs.Prelude.{◌≡◌, ◌==◌, ◌∷◌, [], not, bytes_eq, take, option_map};
 ghost use Rattle.std.specs.List.{find};
 ghost use Rattle.ds_source_reasons.specs.Inner.Plain.{plain_reason};
-ghost use Rattle.ds_source_reasons.specs.Reasons.{is_written, no_label, said_reason, statement_text, unread_reason};
-ghost use Rattle.ds_source_reasons.specs.Inner.Reasons.{reason_of};
+ghost use Rattle.ds_source_reasons.specs.Reasons.{cause_reason, has_upper_case, is_written, no_label, no_mnemonic, reason_of, said_reason, statement_reason, statement_text};
 
 use crate::characters::{begins_with, has_byte};
 use crate::macros::is_macro;
+use crate::operand::{misfit, operand_after, operand_count, reason_or_count};
 use crate::reason::SyntaxReason;
-use crate::statement::text_reason;
 use ds_asm::{
-    directive_named, is_blank, is_digit, is_letter, is_name, line_of, split_at_first, split_word,
-    trimmed, until, without_back_blanks,
+    SyntaxCause, directive_named, form_named, is_blank, is_digit, is_letter, is_name, line_of,
+    split_at_first, split_word, trimmed, until, without_back_blanks,
 };
 
 /// Why a line of a source, without its line feed, can't be read. There is none where it can.
-#[tactic(auto, unfolding(crate::specs::Inner::Reasons::reason_of))]
+#[tactic(auto, unfolding(crate::specs::Reasons::reason_of))]
 pub fn syntax_reason(line: &[u8]) -> Option<SyntaxReason<'_>>
     ensures { option_map plain_reason result ≡ reason_of line.now }
 {
     match line_of(line) {
-        Some(_) => None,
-        None => Some(unread_reason(line)),
+        Ok(_) => None,
+        Err(cause) => Some(said_reason(trimmed(until(b'#', line)), cause)),
     }
 }
 
-/// Why a line can't be read from which the assembler reads nothing.
-#[tactic(auto, unfolding(crate::specs::Reasons::unread_reason))]
-pub(crate) fn unread_reason(line: &[u8]) -> SyntaxReason<'_>
-    ensures { plain_reason result ≡ unread_reason line.now }
-{
-    said_reason(trimmed(until(b'#', line)))
-}
-
-/// Why what a line says up to its comment can't be read.
-fn said_reason(text: &[u8]) -> SyntaxReason<'_>
-    ensures { plain_reason result ≡ said_reason text.now }
+/// Why what a line says up to its comment can't be read, by the cause that the assembler answers.
+fn said_reason(text: &[u8], cause: SyntaxCause) -> SyntaxReason<'_>
+    ensures { plain_reason result ≡ said_reason text.now cause }
 {
     let statement = statement_text(text);
     let (name, _) = split_word(statement);
@@ -49,13 +40,67 @@ fn said_reason(text: &[u8]) -> SyntaxReason<'_>
         SyntaxReason::NoSuchByte(*byte)
     } else if has_byte(b'\r', text) {
         SyntaxReason::CarriageReturn
-    } else if has_byte(b':', text) && !is_name(until(b':', text)) {
-        no_label(until(b':', text))
-    } else if has_byte(b':', statement) {
-        SyntaxReason::SecondColon
     } else {
-        text_reason(statement)
+        cause_reason(cause, text, statement)
     }
+}
+
+/// Why a label or a statement can't be read.
+fn cause_reason<'a>(cause: SyntaxCause, text: &'a [u8], statement: &'a [u8]) -> SyntaxReason<'a>
+    ensures { plain_reason result ≡ cause_reason cause text.now statement.now }
+{
+    match cause {
+        SyntaxCause::NotALabel => no_label(until(b':', text)),
+        _ if has_byte(b':', statement) => SyntaxReason::SecondColon,
+        _ => {
+            let (name, operands) = split_word(statement);
+            let reason = statement_reason(cause, name, operands);
+            reason_or_count(
+                directive_named(name),
+                form_named(name),
+                operand_count(operands),
+                reason,
+            )
+        }
+    }
+}
+
+/// Why a statement can't be read, by its first word and what stands after it.
+#[tactic(auto, unfolding(crate::specs::Reasons::statement_reason))]
+fn statement_reason<'a>(cause: SyntaxCause, name: &'a [u8], text: &'a [u8]) -> SyntaxReason<'a>
+    ensures { plain_reason result ≡ statement_reason cause name.now text.now }
+{
+    match cause {
+        SyntaxCause::TooMany => SyntaxReason::TextAfter(text),
+        SyntaxCause::TextAfter(number) => {
+            let (_, after) = split_word(operand_after(number.saturating_sub(1), text));
+            SyntaxReason::TextAfter(after)
+        }
+        SyntaxCause::Operand { number, wanted } => {
+            misfit(
+                number,
+                wanted,
+                operand_after(number.saturating_sub(1), text),
+            )
+        }
+        SyntaxCause::NoSuchName | SyntaxCause::NotALabel => no_mnemonic(name),
+    }
+}
+
+fn no_mnemonic(name: &[u8]) -> SyntaxReason<'_>
+    ensures { plain_reason result ≡ no_mnemonic name.now }
+{
+    if has_upper_case(name) {
+        SyntaxReason::UpperCase(name)
+    } else {
+        SyntaxReason::NoSuchMnemonic(name)
+    }
+}
+
+fn has_upper_case(text: &[u8]) -> bool
+    ensures { result ≡ has_upper_case text.now }
+{
+    text.iter().any(|c| b'A' <= *c && *c <= b'Z')
 }
 
 /// What stands after the label, where there is one.

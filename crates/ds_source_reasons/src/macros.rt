@@ -1,8 +1,10 @@
 //! Words of other assemblers that this one has not, and what is written in their place.
 ghost use Rattle.std.specs.Prelude.{◌≡◌, bytes_eq, map, position};
-ghost use Rattle.std.specs.List.{list_any, slice_get};
+ghost use Rattle.std.specs.List.{list_any};
 ghost use Rattle.ds_source_reasons.specs.Reasons.{is_macro};
-ghost use Rattle.ds_source_reasons.specs.Texts.{at_place, directive_instead, macro_instead, text_or};
+ghost use Rattle.ds_source_reasons.specs.Texts.{at_place, directive_instead, macro_instead};
+
+use ds_text::{place_among, text_at};
 
 /// The macros of other assemblers, each with what is said after its name.
 macro_rules! macro_table {
@@ -171,21 +173,6 @@ pub(crate) fn instead_of(
 {
     match place_among(names, name) {
         None => other,
-        Some(place) => text_or(texts, place, other),
-    }
-}
-
-fn place_among(names: &[&str], name: &[u8]) -> Option<usize>
-    ensures { result ≡ position (λ m. bytes_eq m.now name.now) names.now }
-{
-    names.iter().position(|m| m.as_bytes() == name)
-}
-
-fn text_or(texts: &[&'static str], place: usize, other: &'static str) -> &'static str
-    ensures { result.now ≡ text_or (slice_get (map (λ t. t.now) texts.now) place) other.now }
-{
-    match texts.get(place) {
-        Some(text) => text,
-        None => other,
+        Some(place) => text_at(texts, place, other),
     }
 }

@@ -1,6 +1,7 @@
 //! The reason of a statement that may not stand where it stands.
 ghost use Rattle.std.specs.Prelude.{◌≡◌, ◌≤◌, ◌==◌, not, length, option_map};
 ghost use Rattle.std.specs.List.{suffix_len};
+ghost use Rattle.std.specs.Result.{result_map_both};
 ghost use Rattle.ds_asm.specs.Inner.Plain.{plain_line};
 ghost use Rattle.ds_source_reasons.specs.Inner.Plain.{plain_range};
 ghost use Rattle.ds_source_reasons.specs.Inner.Reasons.{range_reason_of};
@@ -8,7 +9,7 @@ ghost use Rattle.ds_source_reasons.specs.Ranges.{cause_in, number_text, range_by
 
 use crate::line::statement_text;
 use crate::reason::RangeReason;
-use ds_asm::{Cause, Line, Statement, Target, line_of, split_word, trimmed, until};
+use ds_asm::{Cause, Line, Statement, SyntaxCause, Target, line_of, split_word, trimmed, until};
 
 /// Why the statement of a line, without its line feed, may not stand at a place of the image, in
 /// bytes from its beginning. There is none where it may, and where the line can't be read.
@@ -20,10 +21,10 @@ pub fn range_reason(place: u64, line: &[u8]) -> Option<RangeReason<'_>>
 }
 
 /// The cause for which the assembler refuses the statement of a line at a place.
-fn cause_in(place: u64, line: Option<Line<'_>>) -> Option<Cause>
-    ensures { result ≡ cause_in place (option_map plain_line line.entry) }
+fn cause_in(place: u64, line: Result<Line<'_>, SyntaxCause>) -> Option<Cause>
+    ensures { result ≡ cause_in place (result_map_both plain_line (λ why. why) line.entry) }
 {
-    line?.statement?.cause_at(place)
+    line.ok()?.statement?.cause_at(place)
 }
 
 /// The cause of a line that is refused as out of range: that against its statement, or else against
@@ -31,10 +32,7 @@ fn cause_in(place: u64, line: Option<Line<'_>>) -> Option<Cause>
 pub(crate) fn range_cause(place: u64, line: &[u8]) -> Cause
     ensures { result ≡ range_cause place line.now }
 {
-    match cause_in(place, line_of(line)) {
-        Some(cause) => cause,
-        None => Cause::OutOfReach,
-    }
+    cause_in(place, line_of(line)).unwrap_or(Cause::OutOfReach)
 }
 
 /// The reason of a line by the cause for which its statement is refused at a place.
@@ -52,7 +50,7 @@ pub(crate) fn range_by(place: u64, line: &[u8], cause: Cause) -> Option<RangeRea
         Cause::NotAligned => Some(RangeReason::NotAligned(place)),
         Cause::Reserved => Some(RangeReason::Reserved(name)),
         Cause::OutOfReach => target_reason(line),
-        Cause::Syntax | Cause::DoubleLabel | Cause::TooLong | Cause::UnknownLabel => None,
+        Cause::Syntax(_) | Cause::DoubleLabel | Cause::TooLong | Cause::UnknownLabel => None,
     }
 }
 
@@ -78,7 +76,7 @@ fn last_len(text: &[u8]) -> usize
 pub fn target_reason(line: &[u8]) -> Option<RangeReason<'_>>
     ensures { option_map plain_range result ≡ target_reason_of line.now }
 {
-    let Statement::Instruction(instruction) = line_of(line)?.statement? else {
+    let Statement::Instruction(instruction) = line_of(line).ok()?.statement? else {
         return None;
     };
     match instruction.target {

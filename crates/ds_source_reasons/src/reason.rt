@@ -1,21 +1,6 @@
 //! The reasons for which a line is refused.
 
-/// What has to stand in the place of an operand.
-#[derive(Clone, Copy, Debug, PartialEq, Eq)]
-pub enum Wanted {
-    /// A general register: `$` and its number or its name.
-    Register,
-    /// A register of the system coprocessor: `$` and its number.
-    SystemRegister,
-    /// A number.
-    Number,
-    /// A label.
-    Label,
-    /// A number, and the register of the base in parentheses after it.
-    Address,
-    /// A number or a label.
-    NumberOrLabel,
-}
+use ds_asm::Wanted;
 
 /// Why a line can't be read. Where several reasons hold, the first in the order of these is given.
 /// Each has what stands in the line, in the line's own bytes.

@@ -5,7 +5,7 @@ ghost use Rattle.ds_source_reasons.specs.Texts.{after_byte, after_wanted, bound_
 
 use crate::elsewhere::mnemonic_instead;
 use crate::macros::{directive_instead, macro_instead};
-use crate::reason::{RangeReason, SyntaxReason, Wanted};
+use crate::reason::{RangeReason, SyntaxReason};
 use crate::texts::{
     AFTER_NO_REGISTER, AFTER_NOT_A_LABEL, AFTER_NOT_ALIGNED, AFTER_ONE_NUMBER, AFTER_OPERANDS,
     AFTER_RESERVED, AFTER_SPACED_COLON, AFTER_TARGET, AFTER_TEXT, AFTER_UPPER_CASE,
@@ -15,7 +15,7 @@ use crate::texts::{
     TARGET, TO, WANTED_ADDRESS, WANTED_LABEL, WANTED_NUMBER, WANTED_NUMBER_OR_LABEL,
     WANTED_REGISTER, WANTED_SYSTEM_REGISTER,
 };
-use ds_asm::front_of;
+use ds_asm::{Wanted, front_of};
 use ds_text::sheet::push_decimal;
 use std::alloc::AllocError;
 

@@ -4,7 +4,7 @@ use Rattle.std.specs.Prelude.{Some, OnOk, OnErr, IfErr, None, is_some, ◌||◌,
 use Rattle.std.specs.Io.KnownBytes.{Appends, Keeps}
 use Rattle.ds_log.specs.Text.{line_text}
 use Rattle.ds_log.specs.Report.{report_text}
-use Rattle.ds_log.specs.Sent.{WriterAnswers, AppendsPart, IsAskedOnce}
+use Rattle.ds_text.specs.Sent.{WriterAnswers, AppendsPart, IsAskedOnce}
 use Rattle.ds_pagemap.specs.declared.turn.Turn.{Turn}
 use Rattle.ds_pagemap.specs.Machine.{State}
 use Rattle.ds_pagemap.specs.Run.{Ends, IsPrefix, is_over}

@@ -1,7 +1,7 @@
 -- What is written of a run, in the words of its user.
 use Rattle.std.specs.Prelude.{◌≡◌, ◌⊎◌, ◌++◌, ℕ, true, false, List, replicate, Option, Result, None}
 use Rattle.std.specs.Io.KnownBytes.{Appends, Keeps}
-use Rattle.ds_log.specs.Sent.{AppendsPart}
+use Rattle.ds_text.specs.Sent.{AppendsPart}
 use Rattle.ds_pagemap.specs.Machine.{State}
 use Rattle.ds_pagemap.specs.Run.{goes_on, after, Reaches}
 use Rattle.ds_pagemap.specs.Text.{state_text}

@@ -6,9 +6,9 @@ ghost use Rattle.ds_station.specs.declared.fault.Fault.TheVariants as fault;
 
 use ds_asm::{AsmFault, SourceFault};
 use ds_kernel::Halt;
-use ds_log::WriteFailed;
 use ds_mem::OutOfMemory;
 use ds_policy::{EventsFault, PolicyFault, Text};
+use ds_text::WriteFailed;
 use ds_tlb::BadRandom;
 use std::alloc::{AllocError, AllocFailed};
 use std::fmt;

@@ -22,7 +22,7 @@ ghost use Rattle.std.specs.Prelude.{
 };
 ghost use Rattle.std.specs.Io.KnownBytes.{Appends};
 ghost use Rattle.ds_policy.specs.PolicyParts.{sources_of};
-ghost use Rattle.ds_log.specs.Sent.{AppendsPart, IsAskedOnce};
+ghost use Rattle.ds_text.specs.Sent.{AppendsPart, IsAskedOnce};
 ghost use Rattle.ds_pagemap.specs.Inputs.{Refusal, inputs, inputs_by, inputs_under, inputs_under_by, text_named, image_read, images_from};
 ghost use Rattle.ds_refinement.specs.Stands.{Stands};
 ghost use Rattle.ds_refinement.specs.Inner.Stands.{IsSound};
@@ -42,8 +42,9 @@ ghost use Rattle.ds_station.specs.Written.{WritesUntouched, WritesGuarded, Write
 use crate::fault::Fault;
 use crate::station::Station;
 use ds_asm::{Image, assemble};
-use ds_log::{Output, WriteFailed, send_report};
+use ds_log::send_report;
 use ds_policy::{Events, MOST_TICKS, Policy, Text};
+use ds_text::{Output, WriteFailed};
 use ds_tlb::{Indexed, Lookaside};
 use std::alloc::Global;
 

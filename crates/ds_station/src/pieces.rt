@@ -1,6 +1,6 @@
 //! A run in pieces, which stops where its text has grown too long.
 ghost use Rattle.std.specs.Prelude.{◌≡◌, ◌≤◌, Err, IfErr, IfOk, None, OnErr, OnOk, false, nat_lt, true};
-ghost use Rattle.ds_log.specs.Sent.{IsAskedOnce};
+ghost use Rattle.ds_text.specs.Sent.{IsAskedOnce};
 ghost use Rattle.ds_pagemap.specs.Inputs.{Refusal, inputs_under, inputs_under_by};
 ghost use Rattle.ds_refinement.specs.Real.{RealPath};
 ghost use Rattle.ds_refinement.specs.Runs.{held_goes_on};
@@ -16,8 +16,8 @@ ghost use Rattle.ds_station.specs.Inner.Runs.{IsCut};
 use crate::fault::Fault;
 use crate::files::{deliver, prepare};
 use crate::station::Station;
-use ds_log::Output;
 use ds_policy::Policy;
+use ds_text::Output;
 use ds_tlb::{Indexed, Lookaside};
 use std::alloc::Global;
 

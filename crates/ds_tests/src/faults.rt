@@ -3,11 +3,11 @@ use ds_asm::{AsmFault, SourceFault};
 use ds_cp0::ExceptionCode;
 use ds_dev::BusError;
 use ds_kernel::Halt;
-use ds_log::WriteFailed;
 use ds_mem::OutOfMemory;
 use ds_policy::{EventsFault, PolicyFault, Text};
 use ds_station::Fault;
 use ds_tables::Regions;
+use ds_text::WriteFailed;
 use ds_tlb::BadRandom;
 use std::alloc::{AllocError, Global};
 

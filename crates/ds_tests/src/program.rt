@@ -2,9 +2,9 @@
 use crate::runs::{A, POLICY, PUT_A};
 use ds_asm::SourceFault;
 use ds_drive::{Failure, FileFault, Files, MOST_BYTES, SystemFiles, drive, refuse_words, tell};
-use ds_log::Output;
 use ds_policy::Text;
 use ds_station::Fault;
+use ds_text::Output;
 use std::alloc::{AllocError, Global};
 use std::io::Write;
 use std::os::unix::fs::symlink;

@@ -1,9 +1,13 @@
--- Numbers in upper-case hexadecimal digits, the highest first.
+-- Numbers in hexadecimal digits, the highest first.
 use Rattle.std.specs.Prelude.{ℕ, ◌+◌, ◌/◌, ◌%◌, nat_lt, if◌then◌else◌, List, [], ◌∷◌, ◌++◌}
 
 -- the hexadecimal digit of a number below 16
 abbrev pub hex_digit : ℕ → ℕ
 hex_digit n = if nat_lt n 10 then 48 + n else 55 + n
+
+-- the same in lower case
+abbrev pub lower_hex_digit : ℕ → ℕ
+lower_hex_digit n = if nat_lt n 10 then 48 + n else 87 + n
 
 -- the two hexadecimal digits of a byte
 abbrev pub hex2 : ℕ → List ℕ

@@ -1,6 +1,6 @@
 //! Hexadecimal digits.
 ghost use Rattle.std.specs.Prelude.{◌≡◌, ◌<◌};
-ghost use Rattle.ds_text.specs.Digits.{hex4, hex8, hex_digit};
+ghost use Rattle.ds_text.specs.Digits.{hex4, hex8, hex_digit, lower_hex_digit};
 
 /// The upper-case hexadecimal digit of a number.
 pub fn hex_digit(number: u32) -> u8
@@ -13,6 +13,18 @@ pub fn hex_digit(number: u32) -> u8
         b'0' + number
     } else {
         b'A' - 10 + number
+    }
+}
+
+/// The lower-case hexadecimal digit of a number.
+pub fn lower_hex_digit(value: u8) -> u8
+    requires { value < 16 }
+    ensures { result ≡ lower_hex_digit value }
+{
+    if value < 10 {
+        b'0' + value
+    } else {
+        b'a' - 10 + value
     }
 }
 

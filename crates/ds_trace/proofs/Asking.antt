@@ -1,7 +1,7 @@
 -- How often a place is asked.
 use Rattle.std.proofs.Common.{◌≡◌, false, refl, subst, sym}
 use Rattle.std.specs.Prelude.{Option, Some, None, Result, Err}
-use Rattle.ds_log.specs.Sent.{WriterAnswers, IsAskedOnce}
+use Rattle.ds_text.specs.Sent.{WriterAnswers, IsAskedOnce}
 use Rattle.ds_station.specs.Faults.{is_unwritten}
 use Rattle.ds_station.specs.declared.fault.Fault.{Fault}
 use Rattle.ds_station.specs.declared.fault.Fault.TheVariants as fault

@@ -9,7 +9,7 @@ use Rattle.ds_policy.specs.InputText.{input_of}
 use Rattle.ds_pagemap.specs.Machine.{State}
 use Rattle.ds_pagemap.specs.First.{first_state}
 use Rattle.ds_pagemap.specs.Text.{state_text}
-use Rattle.ds_log.proofs.Sends.{appends_both, part_before}
+use Rattle.ds_text.proofs.Sends.{appends_both, part_before}
 use Rattle.ds_pagemap.specs.Inputs.{Refusal, Sources, check, images_from, input_read, inputs_under, inputs_under_by}
 use Rattle.ds_pagemap.specs.Inputs as refusal
 use Rattle.ds_refinement.specs.Held.{Held}

@@ -3,7 +3,7 @@ use Rattle.std.proofs.Common.{◌≡◌, Bor, ℕ, Bool, true, List, [], ◌∷�
 use Rattle.std.specs.Prelude.{◌&&◌, codes, nat_le, nat_lt}
 use Rattle.std.specs.Io.KnownBytes.{Appends}
 use Rattle.ds_word.specs.ResultBinding.{◌>>=◌}
-use Rattle.ds_log.specs.Sent.{AppendsPart}
+use Rattle.ds_text.specs.Sent.{AppendsPart}
 use Rattle.ds_policy.specs.Value.{InputValue, PolicyValue}
 use Rattle.ds_policy.specs.InputText.{input_of}
 use Rattle.ds_policy.specs.PolicyParts.{sources_of}

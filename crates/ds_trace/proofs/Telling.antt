@@ -3,8 +3,8 @@ use Rattle.std.proofs.Common.{◌≡◌, ℕ, ◌<◌, ◌≤◌, Bool, true, fa
 use Rattle.std.proofs.lemmas.Bool.Decides.{nat_tests}
 use Rattle.std.specs.Prelude.{◌||◌, ◌&&◌, not, nat_lt, is_some}
 use Rattle.std.specs.Io.KnownBytes.{Appends, Keeps}
-use Rattle.ds_log.specs.Sent.{AppendsPart}
-use Rattle.ds_log.proofs.Sends.{appends_kept, appends_none, appends_both, part_after, part_before}
+use Rattle.ds_text.specs.Sent.{AppendsPart}
+use Rattle.ds_text.proofs.Sends.{appends_kept, appends_none, appends_both, part_after, part_before}
 use Rattle.ds_pagemap.specs.declared.turn.Turn.{Turn}
 use Rattle.ds_pagemap.specs.Machine.{State, first, touched}
 use Rattle.ds_pagemap.specs.Run.{half_turn, goes_on, is_over, after, Reaches}

@@ -1,14 +1,15 @@
 -- The words of a call.
 use Rattle.std.specs.Prelude.{ℕ, Bool, true, false, ◌&&◌, ◌==◌, if◌then◌else◌, codes, decimal, List, [], ◌++◌, Option, Some, None}
 use Rattle.ds_text.specs.Digits.{hex2, hex8}
+use Rattle.ds_text.specs.Words.{read_word, write_word}
 use Rattle.ds_procs.specs.declared.call.Call.{Call}
 use Rattle.ds_procs.specs.declared.call.Call.TheVariants as call
 
 -- how a page is given
 abbrev pub mode_text : ℕ → List ℕ
 mode_text mode =
-    if mode == 1 then codes "read" else
-    if mode == 2 then codes "write" else
+    if mode == 1 then read_word else
+    if mode == 2 then write_word else
     if mode == 3 then codes "copy" else decimal mode
 
 -- a call with its arguments

@@ -6,16 +6,15 @@ use Rattle.ds_policy.specs.declared.grant.Grant.{Grant}
 use Rattle.ds_policy.specs.declared.grant.Right.{Right}
 use Rattle.ds_policy.specs.declared.grant.Right.TheVariants.{Nothing, Read, Write}
 use Rattle.ds_policy.specs.Pages.{Table, entries_of, found}
+use Rattle.ds_policy.specs.Words.{right_word}
 use Rattle.ds_words.specs.declared.view.View.{View}
 use Rattle.ds_words.specs.Views.{shows_process}
 use Rattle.ds_trace.specs.Boundaries.{entry_place_text}
 use Rattle.ds_trace.specs.Changes.{same_first}
 
 -- what may be done
-abbrev pub right_text : Right → List ℕ
-right_text Nothing = codes " none"
-right_text Read = codes " read"
-right_text Write = codes " write"
+unfoldable pub right_text : Right → List ℕ
+right_text right = codes " " ++ right_word right
 
 -- a page, by its number from 1
 abbrev pub page_text : Option ℕ → List ℕ

@@ -2,6 +2,7 @@
 use Rattle.std.specs.Prelude.{codes, decimal, ◌≡◌, ◌⊎◌, ⊤, ℕ, ◌+◌, ◌*◌, ◌%◌, ◌^◌, Bool, true, false, if◌then◌else◌, List, [], ◌∷◌, ◌++◌, Option, Some, None, min, nat_lt, is_some, ◌||◌, ◌&&◌}
 use Rattle.std.specs.List.{All}
 use Rattle.ds_text.specs.Digits.{hex8}
+use Rattle.ds_text.specs.Words.{read_word, write_word}
 use Rattle.ds_tlb.specs.declared.entry.Entry.{Entry}
 use Rattle.ds_pagemap.specs.Machine.{State}
 use Rattle.ds_pagemap.specs.Run.{goes_on, Reaches}
@@ -52,7 +53,7 @@ processor_line c =
 
 -- what may be done with a page, by the dirty bit
 abbrev pub dirty_text : Bool → List ℕ
-dirty_text dirty = if dirty then codes "write" else codes "read"
+dirty_text dirty = if dirty then write_word else read_word
 
 -- the line of an entry: its slot, the page's address, the address space's number, the frame's address, and what may be done
 abbrev pub buffer_entry_line : ℕ → Entry → List ℕ

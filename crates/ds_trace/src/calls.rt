@@ -5,6 +5,7 @@ ghost use Rattle.ds_trace.specs.Calls.{call_answer_text, call_text, call_told, i
 
 use ds_procs::Call;
 use ds_text::string::{push_byte, push_decimal, push_hex};
+use ds_text::words;
 use std::alloc::AllocError;
 
 /// How a page is given: for reading, for writing, as a copy, or by a number that means nothing.
@@ -12,8 +13,8 @@ fn push_mode(line: &mut String, mode: u32) -> Result<(), AllocError>
     ensures { OnOk result (string_bytes line.new ≡ string_bytes line.old ++ mode_text mode) }
 {
     match mode {
-        1 => line.push_str("read"),
-        2 => line.push_str("write"),
+        1 => line.push_str(words::READ),
+        2 => line.push_str(words::WRITE),
         3 => line.push_str("copy"),
         _ => push_decimal(line, u64::from(mode)),
     }

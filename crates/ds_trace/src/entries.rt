@@ -82,15 +82,13 @@ pub(crate) fn grant_at(entries: &[Entry], address: u32) -> Option<Grant>
     None
 }
 
-/// What may be done, after a blank.
-fn right_text(right: Right) -> &'static str
-    ensures { result.now ≡ right_text right }
+/// Adds what may be done, after a blank.
+#[tactic(auto, unfolding(crate::specs::Entries::right_text))]
+fn push_right(line: &mut String, right: Right) -> Result<(), AllocError>
+    ensures { OnOk result (string_bytes line.new ≡ string_bytes line.old ++ right_text right) }
 {
-    match right {
-        Right::Nothing => " none",
-        Right::Read => " read",
-        Right::Write => " write",
-    }
+    line.push(' ')?;
+    line.push_str(right.word())
 }
 
 /// Adds a page, by its number from 1.
@@ -155,7 +153,7 @@ fn push_grant(line: &mut String, grant: &Grant) -> Result<(), AllocError>
     ensures { OnOk result
         (string_bytes line.new ≡ string_bytes line.old ++ grant_text grant.now) }
 {
-    line.push_str(right_text(grant.right))?;
+    push_right(line, grant.right)?;
     push_page(line, grant.page)?;
     line.push_str(" rule ")?;
     push_decimal(line, u64::from(grant.rule))?;

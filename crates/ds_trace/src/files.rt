@@ -1,7 +1,7 @@
 //! The trace of a run, from texts to a text.
 ghost use Rattle.std.specs.Prelude.{◌≡◌, IfErr, IfOk, OnOk, Err};
 ghost use Rattle.ds_pagemap.specs.Inputs.{Refusal, inputs, inputs_by, inputs_under, inputs_under_by};
-ghost use Rattle.ds_log.specs.Sent.{IsAskedOnce};
+ghost use Rattle.ds_text.specs.Sent.{IsAskedOnce};
 ghost use Rattle.ds_station.specs.Faults.{is_unwritten};
 ghost use Rattle.ds_station.specs.Headline.{Begins, IsRefused, loaded_with, sources_seen};
 ghost use Rattle.ds_trace.specs.Inner.Summed.{WritesTraceSummed};
@@ -9,9 +9,9 @@ ghost use Rattle.ds_trace.specs.Traces.{TraceEndsBy, TraceEndsReally, WritesTrac
 
 use crate::summed::Summed;
 use crate::trace::tell;
-use ds_log::Output;
 use ds_policy::Policy;
 use ds_station::{Fault, Station, prepare};
+use ds_text::Output;
 use ds_tlb::Indexed;
 use ds_words::View;
 use std::alloc::Global;

@@ -3,8 +3,8 @@ ghost use Rattle.std.specs.Prelude.{◌≡◌, ◌≤◌, ◌++◌, ◌∷◌, [
 ghost use Rattle.std.specs.List.{list_any};
 ghost use Rattle.ds_trace.specs.Logs.{after_word, first_word, fourth_word, is_among, last_of, lines_of, rule_count_text, denied_rules, rules_text, second_word, sixth_word, times_among};
 
+use ds_text::Buffer;
 use ds_text::sheet::push_decimal;
-use itoa::Buffer;
 use std::alloc::{AllocError, Global};
 
 /// The lines of a text, each without its line feed.

@@ -2,7 +2,7 @@
 ghost use Rattle.std.specs.Prelude.{◌≡◌, ◌<◌, ◌≤◌, ◌+◌, ◌*◌, ◌^◌, ◌++◌, IfErr, OnErr, OnOk, codes, length};
 ghost use Rattle.std.specs.Io.KnownBytes.{Appends};
 ghost use Rattle.std.specs.String.{string_bytes};
-ghost use Rattle.ds_log.specs.Sent.{AppendsPart, IsAskedOnce};
+ghost use Rattle.ds_text.specs.Sent.{AppendsPart, IsAskedOnce};
 ghost use Rattle.ds_pagemap.specs.Machine.{State};
 ghost use Rattle.ds_refinement.specs.Stands.{Stands};
 ghost use Rattle.ds_station.specs.Faults.{is_unwritten};
@@ -10,9 +10,9 @@ ghost use Rattle.ds_station.specs.Reads.{memory_held};
 ghost use Rattle.ds_trace.specs.Inner.Handed.{IsLate};
 ghost use Rattle.ds_trace.specs.Memory.{back_text, line_front_text, memory_text, piece_text, pieces_text, read_word_text};
 
-use ds_log::{Output, send};
 use ds_station::{Fault, Station};
 use ds_text::string::{push_decimal, push_hex};
+use ds_text::{Output, send};
 use ds_tlb::Lookaside;
 use std::alloc::{AllocError, Global};
 

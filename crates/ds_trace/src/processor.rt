@@ -7,6 +7,7 @@ ghost use Rattle.ds_trace.specs.Inner.Processors.{total};
 use crate::lines::push_newline;
 use ds_station::{Stage, Station};
 use ds_text::string::{push_decimal, push_hex};
+use ds_text::words;
 use ds_tlb::{Entry, Lookaside};
 use std::alloc::AllocError;
 
@@ -91,9 +92,9 @@ fn push_right(line: &mut String, dirty: bool) -> Result<(), AllocError>
     ensures { OnOk result (string_bytes line.new ≡ string_bytes line.old ++ dirty_text dirty) }
 {
     if dirty {
-        line.push_str("write")
+        line.push_str(words::WRITE)
     } else {
-        line.push_str("read")
+        line.push_str(words::READ)
     }
 }
 

@@ -2,7 +2,7 @@
 ghost use Rattle.std.specs.Prelude.{◌≡◌, ◌++◌, [], OnErr, OnOk, drop, is_err, is_some};
 ghost use Rattle.std.specs.String.{string_bytes};
 ghost use Rattle.std.specs.Io.KnownBytes.{Appends};
-ghost use Rattle.ds_log.specs.Sent.{AppendsPart, IsAskedOnce};
+ghost use Rattle.ds_text.specs.Sent.{AppendsPart, IsAskedOnce};
 ghost use Rattle.ds_trace.specs.Boundaries.{boundary_text};
 ghost use Rattle.ds_trace.specs.Changes.{changes_text};
 ghost use Rattle.ds_trace.specs.Halves.{done_text, changed_entries_text, opening_text, process_of_start};
@@ -19,8 +19,8 @@ use crate::lines::{push_unit, was_done};
 use crate::processor::{ProcessorCounts, push_processor};
 use crate::start::Start;
 use crate::window::WindowEnd;
-use ds_log::{Output, WriteFailed, send};
 use ds_station::Station;
+use ds_text::{Output, WriteFailed, send};
 use ds_tlb::Lookaside;
 use ds_words::View;
 use std::alloc::{AllocError, Global};

@@ -2,7 +2,7 @@
 ghost use Rattle.std.specs.Prelude.{◌≡◌, ◌<◌, ◌≤◌, ◌^◌, ◌++◌, ◌||◌, if◌then◌else◌, IfErr, IfOk, OnErr, OnOk, None, [], false, is_some, min, nat_lt, true};
 ghost use Rattle.std.specs.String.{string_bytes};
 ghost use Rattle.std.specs.Io.KnownBytes.{Appends, Keeps};
-ghost use Rattle.ds_log.specs.Sent.{AppendsPart, IsAskedOnce};
+ghost use Rattle.ds_text.specs.Sent.{AppendsPart, IsAskedOnce};
 ghost use Rattle.ds_refinement.specs.Inner.Stands.{IsSound};
 ghost use Rattle.ds_station.specs.Faults.{is_unwritten};
 ghost use Rattle.ds_station.specs.Headline.{held_text};
@@ -24,9 +24,9 @@ use crate::progress::Progress;
 use crate::sheet::Sheet;
 use crate::summed::summary;
 use crate::window::WindowEnd;
-use ds_log::Output;
 use ds_policy::Policy;
 use ds_station::{Fault, Station, Step, deliver};
+use ds_text::Output;
 use ds_tlb::Lookaside;
 use ds_words::View;
 use std::alloc::{AllocError, Global};
@@ -137,7 +137,7 @@ fn hand_all<O: Output>(sheet: &mut Sheet, out: &mut O) -> Result<(), Fault>
 }
 
 /// Hands what is to be written to the writer, where it is long.
-#[tactic(auto, using(ds_log::proofs::Sends::asked_both, crate::proofs::Asking::asked_none))]
+#[tactic(auto, using(ds_text::proofs::Sends::asked_both, crate::proofs::Asking::asked_none))]
 fn hand_on<O: Output>(sheet: &mut Sheet, out: &mut O) -> Result<(), Fault>
     ensures ok { OnOk result (IsHandedOn (O.contents out.old) (O.contents out.new)
         sheet.old.text.items sheet.new.text.items) }
@@ -175,7 +175,7 @@ fn silent_until(view: &View<'_>, n: u64) -> u64
 /// What comes before the first turn that is told goes by `run`. It answers the fault that cut the run
 /// short, if one did. What is left to be written is in the sheet, what was counted in the counts, and
 /// what the buffer held where the window ended in its lines.
-#[tactic(auto, using(ds_log::proofs::Sends::asked_both, crate::proofs::Asking::asked_none))]
+#[tactic(auto, using(ds_text::proofs::Sends::asked_both, crate::proofs::Asking::asked_none))]
 pub(crate) fn follow<L: Lookaside, O: Output>(
     view: &View<'_>,
     station: &mut Station<L>,
@@ -229,7 +229,7 @@ pub(crate) fn follow<L: Lookaside, O: Output>(
 
 /// Writes what is left of the trace, the end's text with these counts, and the text of the station's
 /// state.
-#[tactic(auto, using(ds_log::proofs::Sends::asked_both, crate::proofs::Asking::asked_none))]
+#[tactic(auto, using(ds_text::proofs::Sends::asked_both, crate::proofs::Asking::asked_none))]
 fn finish<L: Lookaside, O: Output>(
     alloc: Global,
     view: &View<'_>,
@@ -260,7 +260,7 @@ fn finish<L: Lookaside, O: Output>(
 /// where the window ended, and what the processor did; the end's text; and the text of the state in
 /// which it ended. Where memory runs out or a write fails, a prefix of that is written. It answers what
 /// is told of the run, which is by this input under this policy.
-#[tactic(auto, using(ds_log::proofs::Sends::asked_both, crate::proofs::Asking::asked_none))]
+#[tactic(auto, using(ds_text::proofs::Sends::asked_both, crate::proofs::Asking::asked_none))]
 pub(crate) fn tell<L: Lookaside, O: Output>(
     alloc: Global,
     view: &View<'_>,

@@ -6,7 +6,7 @@ use Rattle.ds_policy.specs.declared.grant.Right.TheVariants.{Nothing, Read, Writ
 use Rattle.ds_policy.specs.declared.policy.PolicyRule.{PolicyRule}
 use Rattle.ds_policy.specs.Value.{PolicyValue}
 use Rattle.ds_text.specs.Digits.{hex4, hex8}
-use Rattle.ds_check.specs.Permissions.{table_text}
+use Rattle.ds_check.specs.Permissions.{table_text, right_text}
 
 abbrev rule : ℕ → ℕ → Right → Option ℕ → Bool → Option ℕ → PolicyRule
 rule process address right page give until = record { process = process; address = address; right = right; page = page; give = give; until = until }
@@ -27,5 +27,5 @@ three_processes = record {
 pub entries_by_their_processes : table_text three_processes
     ≡ codes "process 1\n  00400000 read  code, part 12 of one.s, rule 1, until 500\n  0041A000 none  rule 3\n"
     ++ codes "process 2\n  7FFFF000 write data, zero, rule 2, until 7, give (take and revoke reach what is shared on)\nprocess 3\n"
-unfolding hex4 hex8 digits
+unfolding hex4 hex8 digits right_text
 entries_by_their_processes = refl

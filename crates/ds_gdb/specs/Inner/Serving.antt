@@ -1,6 +1,6 @@
 -- What a session with gdb writes while it reads, to its end.
 use Rattle.std.specs.Prelude.{◌⊎◌, ℕ, List, [], Option, Result}
-use Rattle.ds_log.specs.Sent.{AppendsPart}
+use Rattle.ds_text.specs.Sent.{AppendsPart}
 use Rattle.ds_packets.specs.declared.scan.PacketFault.{PacketFault}
 use Rattle.ds_gdb.specs.Streams.{ExchangeState, HearsAll, HearsWords, mark_text}
 

@@ -1,15 +1,17 @@
 -- What it means that a line says a word.
-use Rattle.std.specs.Prelude.{◌≡◌, ℕ, ◌%◌, true, not, ◌==◌, ◌<◌, List, [], ◌∷◌, Option, Some, None, option_map, Ok, ⊤}
+use Rattle.std.specs.Prelude.{◌≡◌, ℕ, ◌%◌, true, not, ◌==◌, ◌<◌, List, [], ◌∷◌, Option, Some, None, Result, Ok, ⊤}
 use Rattle.std.specs.List.{All, list_all}
 use Rattle.ds_word.specs.Bytes.{bytes_of_word}
+use Rattle.ds_word.specs.ResultBinding.{◌>>=◌}
+use Rattle.ds_asm.specs.declared.syntax.SyntaxCause.{SyntaxCause}
 use Rattle.ds_asm.specs.Lines.{Statement, Line, line_of}
 use Rattle.ds_asm.specs.Assembly.{statement_size, cause_at, statement_bytes}
 use Rattle.ds_listing.specs.Sources.{word_of_bytes}
 use Rattle.ds_listing.specs.Texts.{text_of}
 
 -- a line of a statement alone
-abbrev pub alone : Option Statement → Option Line
-alone s = option_map (λ s. record { label = None; statement = s }) (option_map (λ s. Some s) s)
+abbrev pub alone : Result Statement SyntaxCause → Result Line SyntaxCause
+alone r = r >>= (λ s. Ok (Some s)) >>= (λ s. Ok (record { label = None; statement = s }))
 
 -- a statement that has the bytes of a word wherever a word may stand, whatever the labels are
 pub record IsWord (s : Statement) (w : ℕ) : Type 0 where
@@ -18,9 +20,9 @@ pub record IsWord (s : Statement) (w : ℕ) : Type 0 where
   pub bytes : (find : List ℕ → Option ℕ) (at : ℕ) → statement_bytes find at s ≡ Ok (bytes_of_word w)
 
 -- a line of such a statement, and of no label
-pub record Says (line : Option Line) (w : ℕ) : Type 0 where
+pub record Says (line : Result Line SyntaxCause) (w : ℕ) : Type 0 where
   pub statement : Statement
-  pub is : line ≡ alone (Some statement)
+  pub is : line ≡ alone (Ok statement)
   pub word : IsWord statement w
 
 -- a text of one line that says a word

@@ -11,6 +11,7 @@ use crate::events::digits::{address_of, decimal_of, written_bytes};
 use crate::events::event::{Event, TimedEvent};
 use crate::grant::{EntryPlace, Right};
 use crate::names::NamedPages;
+use ds_text::words;
 use std::alloc::{AllocError, Global};
 
 /// The latest time at which an event can be due, in ticks.
@@ -90,21 +91,21 @@ fn command_of(pages: &NamedPages<'_>, verb: &[u8], words: &[&[u8]]) -> Result<Co
     requires { length pages.now ≤ 1024 }
     ensures { result ≡ command_of pages.now verb.now (map (λ w. w.now) words.now) }
 {
-    if verb == b"grant".as_slice() {
+    if verb == words::GRANT.as_bytes() {
         grant_command_of(pages, words)
-    } else if verb == b"narrow".as_slice() {
+    } else if verb == words::NARROW.as_bytes() {
         let EntryPlace { process, address } = entry_in(words)?;
         Ok(Command::Narrow { process, address })
-    } else if verb == b"revoke".as_slice() {
+    } else if verb == words::REVOKE.as_bytes() {
         let EntryPlace { process, address } = entry_in(words)?;
         Ok(Command::Revoke { process, address })
-    } else if verb == b"drop".as_slice() {
+    } else if verb == words::DROP.as_bytes() {
         let EntryPlace { process, address } = entry_in(words)?;
         Ok(Command::Drop { process, address })
-    } else if verb == b"resume".as_slice() {
+    } else if verb == words::RESUME.as_bytes() {
         let process = process_in(words)?;
         Ok(Command::Resume { process })
-    } else if verb == b"stop".as_slice() {
+    } else if verb == words::STOP.as_bytes() {
         let process = process_in(words)?;
         Ok(Command::Stop { process })
     } else {
@@ -217,9 +218,9 @@ fn console_line_of(word: &[u8]) -> Option<u8>
 fn right_of(word: &[u8]) -> Option<Right>
     ensures { result ≡ right_of word.now }
 {
-    if word == b"read".as_slice() {
+    if word == words::READ.as_bytes() {
         Some(Right::Read)
-    } else if word == b"write".as_slice() {
+    } else if word == words::WRITE.as_bytes() {
         Some(Right::Write)
     } else {
         None

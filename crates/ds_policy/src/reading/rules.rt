@@ -16,6 +16,7 @@ use crate::policy::{PolicyPage, PolicyRule};
 use crate::reading::document::{has_only, integer_at, items_between, number, text_at, value_at};
 use crate::reading::own::{OwnRules, no_rules};
 use crate::unread::Unread;
+use ds_text::words;
 use std::alloc::{AllocError, Global};
 use toml::{Table, Value};
 
@@ -177,11 +178,11 @@ fn may_end(version: u32, table: &Table) -> bool
 fn right_named(text: &str) -> Option<Right>
     ensures { result ≡ right_named text.now }
 {
-    if text == "none" {
+    if text == words::NONE {
         Some(Right::Nothing)
-    } else if text == "read" {
+    } else if text == words::READ {
         Some(Right::Read)
-    } else if text == "write" {
+    } else if text == words::WRITE {
         Some(Right::Write)
     } else {
         None

@@ -1,6 +1,6 @@
 -- Worked places of what reasons quote.
 use Rattle.std.specs.Prelude.{codes, refl, ◌≡◌, None, Some}
-use Rattle.ds_source_reasons.specs.declared.reason.Wanted.TheVariants as wanted
+use Rattle.ds_asm.specs.declared.syntax.Wanted.TheVariants as wanted
 use Rattle.ds_source_reasons.specs.Reasons.{NoSuchByte, NoSuchMnemonic, SecondColon, WrongOperand}
 use Rattle.ds_source_reasons.specs.Ranges.{OutOfRange}
 use Rattle.ds_source_reasons.specs.Told.{Unread, OutOf}

@@ -1,9 +1,8 @@
 -- Worked lines that can't be read, each with its reason.
 use Rattle.std.specs.Prelude.{codes, refl, ◌≡◌, ℕ, List, [], ◌∷◌, ◌++◌, map, Option, Some, None}
-use Rattle.ds_source_reasons.specs.declared.reason.Wanted.TheVariants as wanted
+use Rattle.ds_asm.specs.declared.syntax.Wanted.TheVariants as wanted
 use Rattle.ds_source_reasons.specs.Rows.OnLines.{reasons_on_literals}
-use Rattle.ds_source_reasons.specs.Reasons.{Reason, ByteOrderMark, NoSuchDirective, Macro, NoSuchByte, CarriageReturn, SpacedColon, NotALabel, SecondColon, UpperCase, NoSuchMnemonic, Operands, OneNumber, TextAfter, NoSuchRegister, WrongOperand}
-use Rattle.ds_source_reasons.specs.Inner.Reasons.{reason_of}
+use Rattle.ds_source_reasons.specs.Reasons.{Reason, ByteOrderMark, NoSuchDirective, Macro, NoSuchByte, CarriageReturn, SpacedColon, NotALabel, SecondColon, UpperCase, NoSuchMnemonic, Operands, OneNumber, TextAfter, NoSuchRegister, WrongOperand, reason_of}
 
 -- a line, and its reason if it has one
 abbrev LineRow : Type 0

@@ -1,7 +1,7 @@
 -- Worked words of reasons.
 use Rattle.std.specs.Prelude.{codes, refl, ◌≡◌}
 use Rattle.std.specs.Fmt.{digits}
-use Rattle.ds_source_reasons.specs.declared.reason.Wanted.TheVariants as wanted
+use Rattle.ds_asm.specs.declared.syntax.Wanted.TheVariants as wanted
 use Rattle.ds_source_reasons.specs.Reasons.{NoSuchDirective, Macro, NoSuchByte, NoSuchMnemonic, Operands, OneNumber, WrongOperand}
 use Rattle.ds_source_reasons.specs.Ranges.{OutOfRange, NotAligned, Target}
 use Rattle.ds_source_reasons.specs.Texts.{macro_instead, directive_instead, mnemonic_instead, reason_text, range_text}

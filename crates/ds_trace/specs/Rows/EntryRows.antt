@@ -7,7 +7,7 @@ use Rattle.ds_policy.specs.declared.grant.Right.TheVariants.{Read, Write}
 use Rattle.ds_policy.specs.Grants.{forbidden_by}
 use Rattle.ds_text.specs.Digits.{hex4, hex8}
 use Rattle.ds_words.specs.Views.{whole}
-use Rattle.ds_trace.specs.Entries.{changed_text, tables_from}
+use Rattle.ds_trace.specs.Entries.{changed_text, right_text, tables_from}
 
 -- the data page, by a rule of the policy
 abbrev own : Grant
@@ -24,19 +24,19 @@ entry address g = record { address = address; grant = g }
 pub what_has_gone_what_is_otherwise_and_what_stayed :
     changed_text whole 30 2 (entry 0x00420000 share ∷ entry 0x00430000 share ∷ entry 0x00410000 own ∷ []) (entry 0x00430000 share ∷ entry 0x00410000 (forbidden_by 3) ∷ entry 0x00440000 own ∷ [])
     ≡ codes "30 entry 2 00420000 gone\n30 entry 2 00410000 none rule 3\n30 entry 2 00440000 write page 2 rule 3 until 40 give\n"
-unfolding hex4 hex8 digits
+unfolding hex4 hex8 digits right_text
 what_has_gone_what_is_otherwise_and_what_stayed = refl
 
 -- an entry whose parent has gone is told anew
 pub a_share_that_loses_its_parent :
     changed_text whole 34 2 (entry 0x00420000 share ∷ []) (entry 0x00420000 (record share { parent = None }) ∷ [])
     ≡ codes "34 entry 2 00420000 read page 2 rule 3 until 40 give giver 1\n"
-unfolding hex4 hex8 digits
+unfolding hex4 hex8 digits right_text
 a_share_that_loses_its_parent = refl
 
 -- all entries, process by process
 pub what_has_changed_from_a_table_without_entries :
     tables_from whole 9 [] ((entry 0x00410000 own ∷ []) ∷ [] ∷ (entry 0x00410000 share ∷ []) ∷ []) 1 3
     ≡ codes "9 entry 1 00410000 write page 2 rule 3 until 40 give\n9 entry 3 00410000 read page 2 rule 3 until 40 give giver 1 parent 1 00410000\n"
-unfolding hex4 hex8 digits
+unfolding hex4 hex8 digits right_text
 what_has_changed_from_a_table_without_entries = refl

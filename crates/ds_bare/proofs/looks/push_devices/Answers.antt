@@ -1,5 +1,5 @@
 use Rattle.std.specs.Prelude.{codes}
-use Rattle.ds_log.proofs.Sends.{ok_gives}
+use Rattle.ds_text.proofs.Sends.{ok_gives}
 use Rattle.ds_bare.specs.Looks.{count_text, devices_counted}
 use Rattle.ds_bare.proofs.Pieces.{three_pieces}
 use Rattle.ds_bare.proofs.looks.push_devices.Goals as goal

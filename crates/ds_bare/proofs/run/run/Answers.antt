@@ -1,5 +1,5 @@
 use Rattle.std.proofs.Common.{arith, false, rules}
-use Rattle.ds_log.proofs.Sends.{asked_both, at_err}
+use Rattle.ds_text.proofs.Sends.{asked_both, at_err}
 use Rattle.ds_bare.proofs.CutBetween.{cut_at_end, cut_before, told_more, when_short}
 use Rattle.ds_bare.proofs.UnderWay.{all_cut, end_cut, end_told, ending_goes_on, ending_here, turn_cut, turn_goes_on}
 use Rattle.ds_bare.proofs.run.run.Goals as goal

@@ -1,5 +1,5 @@
 use Rattle.std.proofs.Common.{◌≡◌, ◌-◌, false}
-use Rattle.ds_log.specs.Sent.{IsAskedOnce}
+use Rattle.ds_text.specs.Sent.{IsAskedOnce}
 use Rattle.ds_bare.specs.Runs.{ending_from, run_from}
 use Rattle.ds_bare.specs.Inner.Runs.{IsUnderWay}
 use Rattle.ds_bare.proofs.CutBetween.{HasTold}

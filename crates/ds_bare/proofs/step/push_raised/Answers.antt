@@ -1,5 +1,5 @@
 use Rattle.std.specs.Prelude.{codes}
-use Rattle.ds_log.proofs.Sends.{ok_gives}
+use Rattle.ds_text.proofs.Sends.{ok_gives}
 use Rattle.ds_text.specs.Digits.{hex8}
 use Rattle.ds_bare.specs.Steps.{code_text, raised_text}
 use Rattle.ds_bare.proofs.Pieces.{four_pieces}

@@ -1,5 +1,5 @@
 use Rattle.std.proofs.Common.{◌∙◌, refl, arith}
-use Rattle.ds_log.proofs.Sends.{asked_both, at_err}
+use Rattle.ds_text.proofs.Sends.{asked_both, at_err}
 use Rattle.ds_drive.proofs.Tellings.{none_left, one_told, sent_all, sent_part, sheet_sent}
 use Rattle.ds_drive.proofs.faults.tell_lines.Goals as goal
 use Rattle.ds_drive.proofs.faults.tell_lines.Goals.{then-len-ge-BYTES_AT_ONCE+in_ok-send, else-len-ge-BYTES_AT_ONCE}

@@ -1,5 +1,5 @@
 use Rattle.std.proofs.Common.{◌≡◌, ◌++◌, drop, false}
-use Rattle.ds_log.specs.Sent.{IsAskedOnce}
+use Rattle.ds_text.specs.Sent.{IsAskedOnce}
 use Rattle.ds_drive.specs.Told.{told_lines}
 use Rattle.ds_drive.specs.Inner.Told.{passed_in}
 use Rattle.ds_drive.proofs.Tellings.{SentOf}

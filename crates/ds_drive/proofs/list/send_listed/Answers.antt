@@ -1,7 +1,7 @@
 use Rattle.std.proofs.Common.{List, ℕ, ap, subst}
 use Rattle.std.specs.Io.KnownBytes.{Appends}
-use Rattle.ds_log.specs.Sent.{AppendsPart}
-use Rattle.ds_log.proofs.Sends.{appends_both, at_err, err_gives, ok_gives, part_after, part_before}
+use Rattle.ds_text.specs.Sent.{AppendsPart}
+use Rattle.ds_text.proofs.Sends.{appends_both, at_err, err_gives, ok_gives, part_after, part_before}
 use Rattle.ds_drive.specs.Hints.{source_hint}
 use Rattle.ds_drive.specs.Told.{Passed, none_passed, told_lines}
 use Rattle.ds_drive.proofs.list.send_listed.Goals as goal

@@ -1,7 +1,7 @@
 use Rattle.std.proofs.Common.{take, drop, suc, subst}
 use Rattle.std.specs.Prelude.{flat_map}
-use Rattle.ds_log.specs.Sent.{AppendsPart}
-use Rattle.ds_log.proofs.Sends.{at_err, part_after, part_before, flat_map_at}
+use Rattle.ds_text.specs.Sent.{AppendsPart}
+use Rattle.ds_text.proofs.Sends.{at_err, part_after, part_before, flat_map_at}
 use Rattle.ds_drive.specs.Names.{shown_byte, shown_name}
 use Rattle.ds_drive.proofs.names.send_name.Goals as goal
 

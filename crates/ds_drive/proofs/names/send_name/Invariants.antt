@@ -2,7 +2,7 @@ use Rattle.std.proofs.Common.{take, false}
 use Rattle.std.specs.Prelude.{flat_map}
 use Rattle.std.specs.Io.KnownBytes.{Appends}
 use Rattle.ds_drive.specs.Names.{shown_byte}
-use Rattle.ds_log.specs.Sent.{IsAskedOnce}
+use Rattle.ds_text.specs.Sent.{IsAskedOnce}
 use Rattle.ds_drive.proofs.names.send_name.Given as goal
 
 abbrev pub invariant-loop-byte : goal.invariant-loop-byte

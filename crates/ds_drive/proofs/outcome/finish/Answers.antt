@@ -1,6 +1,6 @@
 use Rattle.std.proofs.Common.{rules}
 use Rattle.ds_words.specs.Windows.{windows_in}
-use Rattle.ds_log.proofs.Sends.{at_err}
+use Rattle.ds_text.proofs.Sends.{at_err}
 use Rattle.ds_drive.proofs.Following.{all_follows, nothing_follows, windows_part, windows_whole}
 use Rattle.ds_drive.proofs.outcome.finish.Goals as goal
 

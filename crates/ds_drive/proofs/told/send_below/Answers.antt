@@ -1,4 +1,4 @@
-use Rattle.ds_log.proofs.Sends.{at_err, ok_gives, err_gives, appends_both, part_after, part_before}
+use Rattle.ds_text.proofs.Sends.{at_err, ok_gives, err_gives, appends_both, part_after, part_before}
 use Rattle.ds_drive.specs.Told.{policy_shown, source_shown, input_shown, why_told}
 use Rattle.ds_drive.proofs.told.send_below.Goals as goal
 

@@ -1,5 +1,5 @@
 use Rattle.std.specs.Prelude.{codes, flat_map}
-use Rattle.ds_log.proofs.Sends.{at_err, part_after, part_before}
+use Rattle.ds_text.proofs.Sends.{at_err, part_after, part_before}
 use Rattle.ds_drive.proofs.told.send_line.Goals as goal
 
 pub returns-in_err-send-clause-front : goal.returns-in_err-send-clause-front

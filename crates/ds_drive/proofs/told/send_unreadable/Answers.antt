@@ -1,5 +1,5 @@
 use Rattle.std.specs.Prelude.{codes}
-use Rattle.ds_log.proofs.Sends.{appends_both, at_err, part_after, part_before}
+use Rattle.ds_text.proofs.Sends.{appends_both, at_err, part_after, part_before}
 use Rattle.ds_drive.specs.Names.{shown_name}
 use Rattle.ds_drive.proofs.told.send_unreadable.Goals as goal
 

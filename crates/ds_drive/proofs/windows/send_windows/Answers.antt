@@ -1,7 +1,7 @@
 use Rattle.std.proofs.Common.{take, drop, suc, subst, length}
 use Rattle.std.specs.Prelude.{flat_map}
-use Rattle.ds_log.specs.Sent.{AppendsPart}
-use Rattle.ds_log.proofs.Sends.{at_err, part_after, part_before, flat_map_at}
+use Rattle.ds_text.specs.Sent.{AppendsPart}
+use Rattle.ds_text.proofs.Sends.{at_err, part_after, part_before, flat_map_at}
 use Rattle.ds_station.specs.Reads.{memory_held}
 use Rattle.ds_drive.specs.Windows.{window_lines}
 use Rattle.ds_drive.proofs.windows.send_windows.Goals as goal

@@ -1,8 +1,8 @@
 use Rattle.std.proofs.Common.{subst}
 use Rattle.std.specs.Io.KnownBytes.{Appends}
-use Rattle.ds_log.specs.Sent.{AppendsPart}
+use Rattle.ds_text.specs.Sent.{AppendsPart}
 use Rattle.ds_log.specs.Report.{log_text}
-use Rattle.ds_log.proofs.Sends.{at_err, ok_gives, err_gives, appends_both, part_after, part_before}
+use Rattle.ds_text.proofs.Sends.{at_err, ok_gives, err_gives, appends_both, part_after, part_before}
 use Rattle.ds_log.proofs.Reports.{lent_at, report_from_right}
 use Rattle.ds_log.proofs.report.send_report.Goals as goal
 

@@ -1,6 +1,6 @@
 use Rattle.std.proofs.Common.{List, ℕ, subst, OnOk, OnErr}
 use Rattle.std.specs.Io.KnownBytes.{Appends}
-use Rattle.ds_log.specs.Sent.{AppendsPart}
+use Rattle.ds_text.specs.Sent.{AppendsPart}
 use Rattle.ds_station.proofs.Headlines.{report_of_consoles}
 use Rattle.ds_station.proofs.files.deliver.Goals as goal
 

@@ -1,5 +1,5 @@
 use Rattle.std.proofs.Common.{Bool, Result, subst}
-use Rattle.ds_log.specs.Sent.{IsAskedOnce}
+use Rattle.ds_text.specs.Sent.{IsAskedOnce}
 use Rattle.ds_station.specs.Inner.Station.{StationValue}
 use Rattle.ds_station.specs.Faults.{is_unwritten}
 use Rattle.ds_station.specs.declared.fault.Fault.{Fault}

@@ -12,7 +12,7 @@ use Rattle.ds_station.proofs.Guarded.{policy_guarded_if, policy_cut_if}
 use Rattle.ds_station.proofs.Outcomes.{if_err, on_ok, writes_by, writes_of}
 use Rattle.ds_station.proofs.Quiet.{policy_quiet_if}
 use Rattle.ds_station.proofs.Alone.{policy_alone_if}
-use Rattle.ds_log.specs.Sent.{IsAskedOnce}
+use Rattle.ds_text.specs.Sent.{IsAskedOnce}
 use Rattle.ds_station.specs.Faults.{is_unwritten}
 use Rattle.ds_station.specs.declared.fault.Fault.{Fault}
 use Rattle.ds_station.specs.declared.fault.Fault.TheVariants as fault

@@ -1,5 +1,5 @@
 use Rattle.std.proofs.Common.{◌≡◌, Bool, Ok, Err, subst, sym, ◌∙◌}
-use Rattle.ds_log.specs.Sent.{IsAskedOnce}
+use Rattle.ds_text.specs.Sent.{IsAskedOnce}
 use Rattle.ds_station.specs.Headline.{Refuses}
 use Rattle.ds_station.specs.declared.pieces.Bounded.{Bounded}
 use Rattle.ds_station.proofs.Headlines.{keeps_same, part_prefix, ran_asked, ran_short, refused_only, refused_unasked}

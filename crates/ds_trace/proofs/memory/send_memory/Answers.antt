@@ -1,6 +1,6 @@
 use Rattle.std.proofs.Common.{rules, sym, subst}
 use Rattle.std.specs.Io.KnownBytes.{Appends}
-use Rattle.ds_log.proofs.Sends.{at_err}
+use Rattle.ds_text.proofs.Sends.{at_err}
 use Rattle.ds_policy.specs.Grants.{PageState}
 use Rattle.ds_trace.specs.Memory.{memory_text}
 use Rattle.ds_trace.proofs.Following.{part_none}

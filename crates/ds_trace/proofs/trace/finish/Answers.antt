@@ -1,5 +1,5 @@
 use Rattle.std.proofs.Common.{rules}
-use Rattle.ds_log.proofs.Sends.{at_err}
+use Rattle.ds_text.proofs.Sends.{at_err}
 use Rattle.ds_station.proofs.Headlines.{keeps_same}
 use Rattle.ds_station.specs.Headline.{held_text}
 use Rattle.ds_trace.specs.Inner.Shows.{end_held}

@@ -1,6 +1,6 @@
 use Rattle.std.proofs.Common.{◌≡◌, true, false, Bool, ℕ, Result, Ok, sym, ap, subst, ◌∙◌, arith, inl, rules}
 use Rattle.std.specs.Prelude.{OnErr, is_some, nat_lt, ◌||◌}
-use Rattle.ds_log.proofs.Sends.{asked_both, at_err}
+use Rattle.ds_text.proofs.Sends.{asked_both, at_err}
 use Rattle.ds_refinement.specs.Held.{Held}
 use Rattle.ds_refinement.specs.Runs.{held_goes_on}
 use Rattle.ds_refinement.specs.Inner.Runs.{RunsWithin}

@@ -1,7 +1,7 @@
 use Rattle.std.proofs.Common.{◌≡◌, ◌<◌, false}
 use Rattle.std.specs.Prelude.{is_some}
 use Rattle.ds_kernel.specs.Inner.Going.{rank}
-use Rattle.ds_log.specs.Sent.{IsAskedOnce}
+use Rattle.ds_text.specs.Sent.{IsAskedOnce}
 use Rattle.ds_refinement.specs.Inner.Stands.{IsSound}
 use Rattle.ds_trace.specs.Processors.{told_from, window_end}
 use Rattle.ds_trace.specs.Inner.Counted.{IsCounting}

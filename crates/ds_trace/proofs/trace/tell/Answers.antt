@@ -1,8 +1,8 @@
 use Rattle.std.proofs.Common.{None, Some, false, Option, List, ℕ, subst, rules}
 use Rattle.std.specs.Prelude.{◌++◌}
 use Rattle.std.specs.String.{string_bytes}
-use Rattle.ds_log.specs.Sent.{AppendsPart}
-use Rattle.ds_log.proofs.Sends.{asked_both, at_err}
+use Rattle.ds_text.specs.Sent.{AppendsPart}
+use Rattle.ds_text.proofs.Sends.{asked_both, at_err}
 use Rattle.ds_station.specs.Headline.{held_text}
 use Rattle.ds_station.proofs.Headlines.{keeps_same}
 use Rattle.ds_station.specs.declared.fault.Fault.{Fault}

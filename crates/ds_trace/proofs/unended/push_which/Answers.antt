@@ -1,5 +1,5 @@
 use Rattle.std.proofs.Common.{rules, codes, decimal}
-use Rattle.ds_log.proofs.Sends.{ok_gives}
+use Rattle.ds_text.proofs.Sends.{ok_gives}
 use Rattle.ds_trace.proofs.Joining.{three_added}
 use Rattle.ds_trace.proofs.unended.push_which.Goals as goal
 

@@ -1,8 +1,8 @@
 use Rattle.std.proofs.Common.{inl, ℕ, List, subst}
 use Rattle.std.specs.Prelude.{Option}
 use Rattle.std.specs.Io.KnownBytes.{Appends}
-use Rattle.ds_log.specs.Sent.{AppendsPart}
-use Rattle.ds_log.proofs.Sends.{err_gives, ok_gives}
+use Rattle.ds_text.specs.Sent.{AppendsPart}
+use Rattle.ds_text.proofs.Sends.{err_gives, ok_gives}
 use Rattle.ds_gdb.specs.Streams.{AnswersWords, ExchangeState, mark_text}
 use Rattle.ds_gdb.proofs.Served.{words_cut, words_unanswered, words_written}
 use Rattle.ds_gdb.proofs.stream.Exchange.serve_words.Goals as goal

@@ -1,12 +1,12 @@
 use Rattle.std.proofs.Common.{◌≡◌, ◌≤◌, length}
-use Rattle.ds_packets.specs.Packets.{ticks_from}
-use Rattle.ds_packets.proofs.reading.ticks_from.Given as goal
+use Rattle.ds_packets.specs.Packets.{number_from}
+use Rattle.ds_packets.proofs.reading.number_from.Given as goal
 
 -- what is left goes on to what all digits say
 abbrev pub invariant-loop-left : goal.invariant-loop-left
 invariant-loop-left l = record {
-  goes : ticks_from l.ticks l.left ≡ ticks_from 0 l.digits;
-  few : l.ticks ≤ 1000000000;
+  goes : number_from l.number l.left ≡ number_from 0 l.digits;
+  few : l.number ≤ 1000000000;
 }
 
 abbrev pub decreases-loop-left : goal.decreases-loop-left

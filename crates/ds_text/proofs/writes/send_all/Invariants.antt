@@ -1,8 +1,8 @@
 use Rattle.std.proofs.Common.{take, false}
 use Rattle.std.specs.Prelude.{flat_map}
 use Rattle.std.specs.Io.KnownBytes.{Appends}
-use Rattle.ds_log.specs.Sent.{IsAskedOnce}
-use Rattle.ds_log.proofs.writes.send_all.Given as goal
+use Rattle.ds_text.specs.Sent.{IsAskedOnce}
+use Rattle.ds_text.proofs.writes.send_all.Given as goal
 
 abbrev pub invariant-loop-piece : goal.invariant-loop-piece
 invariant-loop-piece g l = record {

@@ -2,8 +2,8 @@ use Rattle.std.proofs.Common.{rules, ℕ, take, arith, subst, List}
 use Rattle.std.proofs.lemmas.Grind.{common_steps}
 use Rattle.std.specs.Io.KnownBytes.{Appends}
 use Rattle.std.proofs.lemmas.List.{take_rest}
-use Rattle.ds_log.proofs.Sends.{asked_last, asked_more, part_of_text, appends_kept, appends_both, take_both, took_nothing}
-use Rattle.ds_log.proofs.writes.send.Goals as goal
+use Rattle.ds_text.proofs.Sends.{asked_last, asked_more, part_of_text, appends_kept, appends_both, take_both, took_nothing}
+use Rattle.ds_text.proofs.writes.send.Goals as goal
 
 pub returns-in-Ok-eq0-clause-err : goal.returns-in-Ok-eq0-clause-err
 returns-in-Ok-eq0-clause-err g c = part_of_text _ _ c.args.text.now c.loop-sent.sent (appends_kept _ _ _ _ c.loop-sent.invariant.written (took_nothing _ _ c.in-Ok-eq0.field-0 _ c.in-Ok-eq0.field-0-test c.in-Ok-eq0.ensures.bytes))

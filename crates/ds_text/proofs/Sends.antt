@@ -4,7 +4,7 @@ use Rattle.std.proofs.lemmas.List.{take-append-drop}
 use Rattle.std.specs.Prelude.{Option, Some, None, flat_map, Result, Ok, Err, OnOk, OnErr}
 use Rattle.std.specs.Io.KnownBytes.{Appends, Keeps}
 use Rattle.std.proofs.Math.Seq.{take-add}
-use Rattle.ds_log.specs.Sent.{WriterAnswers, AppendsPart, HasAnswered, IsAskedOnce}
+use Rattle.ds_text.specs.Sent.{WriterAnswers, AppendsPart, HasAnswered, IsAskedOnce}
 
 -- nothing was written
 pub appends_none : (a : Option (List ℕ)) → Appends a a []

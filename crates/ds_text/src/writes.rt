@@ -2,7 +2,7 @@
 ghost use Rattle.std.specs.Prelude.{ℕ, List, Option, None, OnOk, OnErr, flat_map, is_err};
 ghost use Rattle.std.specs.Io.{WritesAtMost};
 ghost use Rattle.std.specs.Io.KnownBytes.{Appends, WriteAppends};
-ghost use Rattle.ds_log.specs.Sent.{WriterAnswers, AppendsPart, HasAnswered, IsAskedOnce, takes_nothing};
+ghost use Rattle.ds_text.specs.Sent.{WriterAnswers, AppendsPart, HasAnswered, IsAskedOnce, takes_nothing};
 
 use std::io;
 use std::io::Write;

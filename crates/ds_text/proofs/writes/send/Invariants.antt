@@ -1,7 +1,7 @@
 use Rattle.std.proofs.Common.{◌-◌, ◌≤◌, length, take, false}
-use Rattle.ds_log.specs.Sent.{IsAskedOnce}
+use Rattle.ds_text.specs.Sent.{IsAskedOnce}
 use Rattle.std.specs.Io.KnownBytes.{Appends}
-use Rattle.ds_log.proofs.writes.send.Given as goal
+use Rattle.ds_text.proofs.writes.send.Given as goal
 
 abbrev pub invariant-loop-sent : goal.invariant-loop-sent
 invariant-loop-sent g l = record {

@@ -1,8 +1,8 @@
 use Rattle.std.proofs.Common.{take, drop, suc, subst}
 use Rattle.std.specs.Prelude.{flat_map}
-use Rattle.ds_log.specs.Sent.{AppendsPart}
-use Rattle.ds_log.proofs.Sends.{at_err, part_after, part_before, flat_map_at}
-use Rattle.ds_log.proofs.writes.send_all.Goals as goal
+use Rattle.ds_text.specs.Sent.{AppendsPart}
+use Rattle.ds_text.proofs.Sends.{at_err, part_after, part_before, flat_map_at}
+use Rattle.ds_text.proofs.writes.send_all.Goals as goal
 
 pub returns-in_err-send-clause-err : goal.returns-in_err-send-clause-err
 returns-in_err-send-clause-err g c = at_err c.from_residual.result
