@@ -19,8 +19,7 @@ from pathlib import Path
 HERE = Path(__file__).resolve().parent
 DSMON = HERE.parent / "crates/dsmon/out/dsmon"
 GUESTS = ("sums", "pages", "recursion", "crc", "sieve", "sort")
-# What one run takes at least, in seconds, so that how it begins and ends does not count.
-LEAST = 1.0
+LEAST = 1.0  # what one run takes at least, in seconds, so that how it begins and ends does not count
 
 
 def source(guest, times, data, end, begin=""):
@@ -50,7 +49,7 @@ def by_dsmon(guest, times):
 def by_gxemul(guest, times):
     end = " lui $t0, 0xB000\n sb $zero, 16($t0)\n nop\n nop\n"
     Path("peer.s").write_text(source(guest, times, 0x8050, end))
-    listing = subprocess.run([DSMON, "list", "peer.s"], stdout=subprocess.PIPE, text=True, check=True).stdout
+    listing = subprocess.check_output([DSMON, "list", "peer.s"], text=True)
     words = [int(it, 16) for it in re.findall(r"^ *\d+  [0-9A-F]{8}  ([0-9A-F]{8}) ", listing, re.M)]
     Path("peer.bin").write_bytes(struct.pack(f">{len(words)}I", *words))
     return ["gxemul", "-q", "-E", "testmips", "-C", "R3000", "-M", "16", "0x80400000:peer.bin"]
@@ -64,11 +63,8 @@ def by_spim(guest, times):
 
 def instructions(guest, times):
     """Returns how many instructions a guest takes: dsmon's ticks, of which a round has as many as the next."""
-    ticks = []
-    for few in (1, 2):
-        out = subprocess.run(by_dsmon(guest, few), stdout=subprocess.PIPE, text=True, check=True).stdout
-        ticks.append(int(out.split()[-1]))
-    return ticks[0] + (times - 1) * (ticks[1] - ticks[0])
+    one, two = (int(subprocess.check_output(by_dsmon(guest, few), text=True).split()[-1]) for few in (1, 2))
+    return one + (times - 1) * (two - one)
 
 
 def rate(emulator, guest):
@@ -76,8 +72,7 @@ def rate(emulator, guest):
     times = 1
     while seconds(emulator(guest, times)) < LEAST:
         times *= 2
-    best = min(seconds(emulator(guest, times)) for _ in range(3))
-    return instructions(guest, times) / best / 1e6
+    return instructions(guest, times) / min(seconds(emulator(guest, times)) for _ in range(3)) / 1e6
 
 
 def main():

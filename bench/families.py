@@ -2,26 +2,17 @@
 """How long a take, a revoke, a drop and the end of a process take where all of 25,600 entries are of one family.
 
     bench/families.py [PROGRAM]            seconds of processor time of one call, for each family and call
-    bench/families.py --count [PROGRAM]    host instructions in place of seconds, by callgrind (valgrind)
-    bench/families.py --alone PROGRAM      host instructions of one call alone, where nearly nothing is shared
+    bench/families.py --alone PROGRAM      host instructions of one call alone, where nearly nothing is shared, by callgrind (valgrind)
     bench/families.py --guest DSMON        seconds of processor time of a million ticks of a guest that drops and gives, with full tables
 
-PROGRAM is rows, as `(cd crates/rows && rt run)` proves and builds it. It replays two files over both buffers: the
-shares, and the shares with a call after them; a call is half of the difference, of the least of nine runs each, which may be wrong by
-20 milliseconds. What the program compares after each call, the page-table words of all 25,600 places, is a part of it. 100
-processes have 256 entries each:
+PROGRAM is rows, as `(cd crates/rows && rt run)` proves and builds it. It replays two files over both buffers: the shares, and the shares with a call after them;
+a call is half of the difference, of the least of nine runs each, which may be wrong by 20 milliseconds. What the program compares after each call is a part of
+it. In a chain each entry was shared from the one before it, in a zigzag from one of the next process, so that a walk over the processes meets the last one
+first, and in a fan all from one. From a leaf nothing was shared; what was shared from the one that `drop` drops is handed on.
 
-    chain      each entry was shared from the one before it, process by process in the order of their numbers
-    zigzag     each was shared from one of the next process, so that a walk over the processes meets the last one first
-    fan        all were shared from one
-
-A leaf is a drop of the last entry, from which nothing was shared; what was shared from the one that `drop` drops is handed on.
-
-With `--alone` each process that takes part has 255 entries that an operator granted, and one place free, the last. What is given there is
-dropped, taken and revoked, with so many shares of it in as many processes, or all in the last places of one. Then calls in a chain of four
-processes are counted, whose 1,024 entries were each shared from the one before. Counted is what callgrind collects in the function of the
-call, for each buffer: so PROGRAM has to keep `Grants::take` and the others as functions, and no comparison is a part of it. A proved program
-has them inlined; one from the code that `rt try` hands to LLVM, with its checks taken out and these marked `noinline`, keeps them.
+With `--alone` each process that takes part has 255 entries that an operator granted, and one place free, the last. Counted is what callgrind collects in the
+function of the call, for each buffer: so PROGRAM has to keep `Grants::take` and the others as functions. A proved program has them inlined; one from the code
+that `rt try` hands to LLVM, with its checks taken out and these marked `noinline`, keeps them.
 
 With `--guest` process 1 of 100 gives until each has 255 or 256 entries, some 230,000 ticks, and then goes on as `families.s` says.
 """
@@ -144,21 +135,18 @@ def time_guest(program):
 
 
 def main(arguments):
-    is_counted = "--count" in arguments
     program = os.path.abspath(next((it for it in arguments if not it.startswith("--")), PROGRAM))
     if "--alone" in arguments:
         return count_alone(program)
     if "--guest" in arguments:
         return time_guest(program)
-    words = CALLGRIND if is_counted else []
     for family in ("chain", "zigzag", "fan"):
         made, took = list(shares(family)), {}
-        for _ in range(1 if is_counted else RUNS):  # by turns, so that what else goes on slows all of them alike
+        for _ in range(RUNS):  # by turns, so that what else goes on slows all of them alike
             for name, line in [("none", ""), *calls(family)]:
-                took.setdefault(name, []).append(replayed(program, [*made, line], words))
+                took.setdefault(name, []).append(replayed(program, [*made, line]))
         for name, _ in calls(family):
-            call = (min(took[name]) - min(took["none"])) / 2
-            print(f"{family:8}{name:8}{call:,.0f} instructions" if is_counted else f"{family:8}{name:8}{call * 1000:.1f} milliseconds", flush=True)
+            print(f"{family:8}{name:8}{(min(took[name]) - min(took['none'])) / 2 * 1000:.1f} milliseconds", flush=True)
 
 
 if __name__ == "__main__":

@@ -7,6 +7,7 @@ kernel mode: sums, accesses of memory and devices by all segments, calls, branch
 """
 import random
 import sys
+from pathlib import Path
 
 import case_files
 from bare_model import told
@@ -17,67 +18,7 @@ WORDS = f"bare one.s {MOST} --random {START} --keys drawn.input".split()
 KINDS = ("exceptions", "tlb", "devices")
 SEEDS = {"exceptions": range(17, 21), "tlb": range(21, 25), "devices": range(25, 29)}  # the programs of which one kind of instruction is told
 
-FRONT = """\
-j setup
-nop
-mfc0 $26, $4
-mfc0 $27, $14
-lw $26, 0($26)
-nop
-mtc0 $26, $2
-nop
-{write}
-jr $27
-rfe
-j general
-.word body
-general: mfc0 $26, $13
-mfc0 $27, $14
-mtc0 $zero, $13
-lui $24, 0xBFE8
-lw $24, 0x30($24)
-addiu $25, $25, 1
-lui $24, 0xBFE0
-lw $24, 8($24)
-nop
-andi $24, $26, 0x7C
-beq $24, $zero, back
-nop
-addiu $27, $27, 4
-bgez $26, back
-nop
-addiu $27, $27, 4
-back: jr $27
-rfe
-setup: lui $8, 0x8000
-lui $9, 0x8040
-addiu $10, $9, 36
-copy: lw $11, 8($9)
-addiu $9, $9, 4
-sw $11, 0($8)
-bne $9, $10, copy
-addiu $8, $8, 4
-lw $11, 8($9)
-lui $8, 0x8000
-sw $11, 0x80($8)
-lui $8, 0x8060
-mtc0 $8, $4
-lui $17, 0x8050
-lui $18, 0xBFE8
-lui $19, 0xBFE0
-lui $20, 0xBFF0
-lui $21, 0xC000
-lui $16, 0x0041
-ori $22, $16, 0x1000
-ori $23, $16, 0x2000
-"""
-BACK = """\
-lw $10, 12($9)
-nop
-jr $10
-rfe
-body:
-"""
+FRONT = Path(__file__).with_name("bare_front.s").read_text()
 POINTERS = (16, 16, 17, 17, 18, 19, 20, 21, 22, 23, 23)  # registers with addresses of pages, of kseg0, of each device and of kseg2
 SUMS, HALVES = "add addu sub subu and or xor nor slt sltu".split(), "addi addiu slti sltiu".split()
 LOADS, STORES = "lw lw lb lbu lh lhu lwl lwr".split(), "sw sw sb sh swl swr".split()
@@ -92,7 +33,7 @@ def put(value, address):
 
 def front(drawn):
     """The words of the handlers, the page table, the devices, and the way to the body."""
-    lines = FRONT.format(write=drawn.choice(["tlbwr", "tlbwr", "tlbwi"])).splitlines()
+    write, lines = drawn.choice(["tlbwr", "tlbwr", "tlbwi"]), []
     for page in range(2):
         lines += put(0x40_0600 + 0x1000 * page, f"{0x1000 + 4 * page}($8)")
     for page in range(4):
@@ -101,7 +42,8 @@ def front(drawn):
     lines += [*put(drawn.choice([6, 7]), "0x28($18)"), *put(0x40, "0x2C($18)")]
     lines += [*put(0x60, "0($19)"), *put(drawn.randrange(1, 16), "16($19)"), *put(0x80_0000, "0($20)")]
     mode = drawn.choice([0, 8]) | drawn.choice([0x0, 0x1000_0000, 0x2000_0000]) | drawn.choice([0xC04, 0xF04, 0x804])
-    return [*lines, f"lui $10, 0x{mode >> 16:X}", f"ori $10, $10, 0x{mode & 0xFFFF:X}", "mtc0 $10, $12", *BACK.splitlines()]
+    lines += [f"lui $10, 0x{mode >> 16:X}", f"ori $10, $10, 0x{mode & 0xFFFF:X}", "mtc0 $10, $12"]
+    return FRONT.format(write=write, drawn="\n".join(lines))
 
 
 def instruction(drawn, label):
@@ -134,7 +76,7 @@ def source(drawn):
             labels.setdefault(min(k + drawn.randrange(2, 9), count), []).append(label)
         lines.append(said)
     marked = [mark for k in range(count) for mark in [*(f"{it}:" for it in labels.get(k, [])), lines[k]]]
-    return "\n".join([*front(drawn), *marked, *(f"{it}:" for it in labels.get(count, [])), "break 1"]) + "\n"
+    return front(drawn) + "\n".join([*marked, *(f"{it}:" for it in labels.get(count, [])), "break 1"]) + "\n"
 
 
 def keys():

@@ -65,9 +65,6 @@ class Bus:
             return self.word(place) if size == "part" else int.from_bytes(self.memory[place:place + size], "little")
         if size != 4:
             raise BusError
-        return self.load_register(place)
-
-    def load_register(self, place):
         match place:
             case 0x1FE0_0000: return self.can_send() << 15 | self.line() << 8 | bool(self.silo) << 7 | self.asks_for_received << 6 | self.is_scanned << 5
             case 0x1FE0_0008:
@@ -89,15 +86,10 @@ class Bus:
 
     def store(self, place, data, is_word):
         """A store of bytes. A register takes a whole word alone."""
-        if self.is_memory(place):
-            self.memory[place:place + len(data)] = data
-        elif not is_word:
-            raise BusError
-        else:
-            self.store_register(place, int.from_bytes(data, "little"))
-
-    def store_register(self, place, value):
+        value = int.from_bytes(data, "little")
         match place:
+            case _ if self.is_memory(place): self.memory[place:place + len(data)] = data
+            case _ if not is_word: raise BusError
             case 0x1FE0_0000: self.asks_for_received, self.is_scanned = bool(value & 0x40), bool(value & 0x20)
             case 0x1FE0_0010: self.enables = value & 15
             case 0x1FE0_0018: self.waiting = (self.line(), value & 255) if self.can_send() else self.waiting
@@ -105,6 +97,4 @@ class Bus:
             case 0x1FE8_002C: self.is_enabled = bool(value & 0x40)
             case 0x1FF0_0000: self.system = value >> 16 & 255
             case 0x1FE0_0008: pass
-            case _:
-                if not CLOCK <= place < CLOCK_END:
-                    raise BusError
+            case _ if not CLOCK <= place < CLOCK_END: raise BusError

@@ -8,7 +8,11 @@
 It is written after docs/bare.md, docs/machine.md ("Memory and devices") and Kane and Heinrich, chapters 4 and 5, and shares nothing with the
 program. The sums, branches and texts of a user's instructions are those of tools/hostile_model.py and tools/trace_model.py.
 """
+import contextlib
+import math
 import sys
+from collections import namedtuple
+from itertools import combinations
 from types import SimpleNamespace
 from typing import NamedTuple
 
@@ -17,7 +21,7 @@ import trace_model
 from bare_devices import Bus, BusError
 from case_files import files_in
 from hostile_model import LOADS, SIZES, STORES, Hostile, decode, merged, signed, stored
-from trace_model import BRANCHES, COMMON, SYSTEM_WORDS, asked, by_names, decode_all, image
+from trace_model import BRANCHES, COMMON, SYSTEM_WORDS, asked, by_names, decode_all, events_of, image, memory_lines, number
 from turns_model import MASK, Denied
 
 SLOTS, WIRED, FIRST = 64, 8, 0x8040_0000  # Random names slots from the first that is not wired
@@ -27,6 +31,8 @@ SYSTEM = {word: name for name, word in SYSTEM_WORDS.items()}
 NAMES = {0: "Index", 2: "EntryLo", 4: "Context", 8: "BadVAddr", 10: "EntryHi", 12: "Status", 13: "Cause", 14: "EPC"}
 WRITABLE = {0: 0x8000_3F00, 2: 0xFFFF_FF00, 4: 0xFFE0_0000, 10: 0xFFFF_FFC0, 12: 0xF003_FF3F, 13: 0x0000_0300}  # the bits of a register that `mtc0` writes
 IDENTITY = 0x230
+MATCH = "slots {} and {} match each other, which the architecture forbids\n"
+READS = SimpleNamespace(operand=lambda q, n: q.r[n])  # how an instruction of hostile_model reads a register here
 
 
 class Raised(Exception):
@@ -61,8 +67,6 @@ def exception_text(code):
     return f"{code} {EXCEPTIONS[code] if code < len(EXCEPTIONS) else 'reserved'}"
 
 
-# Words and their texts.
-
 def decoded(word):
     """The name of a word's instruction with its operands; a coprocessor's without a name of its own is `cop` with its number."""
     if word in SYSTEM:
@@ -88,21 +92,9 @@ def register_text(n, names):
     return f"${COMMON[n] if names else n}"
 
 
-class View(NamedTuple):
-    """What is told, by the flags of the command."""
-
-    is_quiet: bool = False
-    first: int = 0
-    past: int | None = None
-    only: str | None = None
-    matches: bool = False
-    counts: bool = False
-    memory: tuple = ()  # the address and the count of each span
-    names: bool = False  # whether registers have their common names
-
-    def reaches(self, number):
-        """Whether the instruction with this number may be told."""
-        return not self.is_quiet and self.only != "end" and self.first <= number and (self.past is None or number < self.past)
+# What is told: nothing but the end, from which instruction on and before which, of which kind alone, slots that match, counts, the address and the count of spans
+# of memory, and registers by their common names.
+View = namedtuple("View", "is_quiet first past only matches counts memory names", defaults=(False, 0, math.inf, None, False, False, (), False))
 
 
 class Machine:
@@ -126,11 +118,7 @@ class Machine:
         return r
 
     def mfc0(self, number):
-        if number == 1:
-            return self.random << 8
-        if number == 15:
-            return IDENTITY
-        return self.system.get(number, 0) | (self.bus.requests() if number == 13 else 0)
+        return {1: self.random << 8, 15: IDENTITY, 13: self.system[13] | self.bus.requests()}.get(number, self.system.get(number, 0))
 
     def mtc0(self, number, value):
         if number in WRITABLE:
@@ -149,7 +137,6 @@ class Machine:
         return next((k for k, it in enumerate(self.slots) if it.matches(page, number)), None)
 
     def place(self, address, size, is_store=False):
-        """The physical place of an access."""
         if address % size or address >= 2**31 and self.is_user():
             raise Raised(5 if is_store else 4, address)
         if 0x8000_0000 <= address < 0xC000_0000:
@@ -164,17 +151,14 @@ class Machine:
             raise Raised(1, address)
         return low & ~4095 & MASK | address & 4095
 
-    def word_at_pc(self):
-        """The word at pc, where that lies in memory."""
-        try:
-            place = self.place(self.pc, 4)
-            return self.bus.word(place) if self.bus.is_memory(place) else None
-        except Raised:
-            return None
+    def reached(self, *access):
+        """The physical place of an access, or none."""
+        with contextlib.suppress(Raised):
+            return self.place(*access)
 
     def load(self, name, address, t):
-        place = self.place(address, SIZES.get(name, 1))
         size = SIZES.get(name, 1)
+        place = self.place(address, size)
         if name in ("lwl", "lwr"):
             return merged(name, self.bus.load(place, "part"), place % 4, self.r[t]) & MASK
         value = self.bus.load(place, size)
@@ -187,20 +171,14 @@ class Machine:
 
     # An instruction.
 
-    def jump(self, r, name, o):
-        """The target of a jump or branch, with its link; none where the instruction is neither."""
-        told = SimpleNamespace(r=r, set=lambda n, value: self.write(n, value))
-        own = SimpleNamespace(operand=lambda q, n: q.r[n])
-        return Hostile.branch(own, told, self.pc, name, o)
-
     def write(self, n, value):
         if n:
             self.r[n] = value & MASK
 
     def operate(self, r, name, o):
-        told, own = SimpleNamespace(r=r, hi=self.hi, lo=self.lo), SimpleNamespace(operand=lambda q, n: q.r[n])
+        told = SimpleNamespace(r=r, hi=self.hi, lo=self.lo)
         try:
-            changed = Hostile.operate(own, told, name, o)
+            changed = Hostile.operate(READS, told, name, o)
         except Denied as denied:
             raise Raised(denied.args[3])
         self.hi, self.lo = told.hi, told.lo
@@ -240,7 +218,8 @@ class Machine:
         if name in (*BRANCHES, "j", "jal", "jr", "jalr"):
             if self.in_slot:
                 raise Raised(10)
-            self.pc, self.next, self.in_slot, self.late = self.next, self.jump(r, name, o), True, None
+            to = Hostile.branch(READS, SimpleNamespace(r=r, set=self.write), self.pc, name, o)
+            self.pc, self.next, self.in_slot, self.late = self.next, to, True, None
             return True
         try:
             if name in LOADS:
@@ -293,27 +272,11 @@ class Machine:
     # What is told.
 
     def about_to(self, word):
-        """The slot that an instruction is about to write, and its store: the place and the register's value."""
-        r, slot, stored = self.seen(), None, None
-        name, *o = decoded(word) if word is not None else (None,)
-        if name in ("tlbwi", "tlbwr"):
-            slot = self.system[0] >> 8 & 63 if name == "tlbwi" else self.random
-        if name in STORES:
-            try:
-                stored = self.place(r[o[2]] + signed(o[1], 16) & MASK, 1, True), r[o[0]]
-            except Raised:
-                pass
-        return slot, stored
-
-    def is_about_to_reach_a_device(self, word):
-        """Whether an instruction loads from a device or stores to one, if it is done."""
-        name, *o = decoded(word) if word is not None else (None,)
-        if name not in (*LOADS, *STORES):
-            return False
-        try:
-            return not self.bus.is_memory(self.place(self.seen()[o[2]] + signed(o[1], 16) & MASK, 1, name in STORES))
-        except Raised:
-            return False
+        """The slot that an instruction is about to write, its store as the place and the register's value, and whether it reaches a device, if it is done."""
+        r, (name, *o) = self.seen(), decoded(word) if word is not None else (None,)
+        slot = {"tlbwi": self.system[0] >> 8 & 63, "tlbwr": self.random}.get(name)
+        place = self.reached(r[o[2]] + signed(o[1], 16) & MASK, 1, name in STORES) if name in (*LOADS, *STORES) else None
+        return slot, (place, r[o[0]]) if place is not None and name in STORES else None, place is not None and not self.bus.is_memory(place)
 
     def count(self, code, is_jump, word, came):
         """What is counted of a step that has just been done."""
@@ -326,25 +289,21 @@ class Machine:
         for bit, device in (10, "lines"), (11, "clock"):
             self.counts[f"interrupts of the {device}"] += code == 0 and self.bus.requests() & self.system[12] & 1 << bit != 0
 
-    def turn(self, done, is_quiet):
+    def turn(self, done, view=View(is_quiet=True)):
         """One instruction when so many are done: its line, and why the run ends with it, if it does."""
-        return self.told_turn(done, View(is_quiet=is_quiet))
-
-    def told_turn(self, done, view):
-        """The same, with what is told of it."""
         others, asked, came = self.others(), self.bus.requests(), 0
         while self.keys and self.keys[0][0] <= done:
             self.bus.receive(*self.keys.pop(0)[1:])
             came += 1
-        pc, word, r, slots = self.pc, self.word_at_pc(), self.seen(), list(self.slots)
-        slot, stored = self.about_to(word)
-        is_device = self.is_about_to_reach_a_device(word)
+        pc, place, r, slots = self.pc, self.reached(self.pc, 4), self.seen(), list(self.slots)
+        word = self.bus.word(place) if place is not None and self.bus.is_memory(place) else None
+        slot, stored, is_device = self.about_to(word)
         code, is_jump = self.step()
         ending = self.ending(code, word)
         self.count(code, is_jump, word, came)
         self.bus.tick()
         self.sent += self.bus.leaving()
-        if not view.reaches(done + 1):
+        if view.is_quiet or view.only == "end" or not view.first <= done + 1 < view.past:
             return "", ending
         is_done = code is None and not is_jump
         is_told = {
@@ -354,15 +313,14 @@ class Machine:
             "devices": is_done and is_device or code == 0 or asked != self.bus.requests(),
         }[view.only]
         line = self.line(view.names, done, pc, word, r, others, slot, stored, code, is_jump) if is_told else ""
-        return line + (self.begun(slots) if view.matches else ""), ending
+        pairs = combinations(range(SLOTS), 2) if view.matches and slots != self.slots else ()
+        begun = [it for it in pairs if self.meet(*it) and not slots[it[0]].meets(slots[it[1]])]
+        return line + "".join(MATCH.format(*it) for it in begun), ending
 
-    def begun(self, before):
-        """The slots that match each other, and did not before."""
-        pairs = [(a, b) for a in range(SLOTS) for b in range(a + 1, SLOTS) if self.slots[a].meets(self.slots[b]) and not before[a].meets(before[b])]
-        return "".join(f"slots {a} and {b} match each other, which the architecture forbids\n" for a, b in pairs) if before != self.slots else ""
+    def meet(self, a, b):
+        return self.slots[a].meets(self.slots[b])
 
     def line(self, names, done, pc, word, r, others, slot, stored, code, is_jump):
-        """The line of an instruction."""
         told = [f"{done + 1} {pc:08X} {'not fetched' if word is None else text_of(word, names)}"]
         if code is None and not is_jump:
             told += [f"slot {slot} {self.slots[slot]}"] if slot is not None else []
@@ -386,7 +344,7 @@ class Machine:
     def run(self, most, view):
         """The whole text, piece by piece."""
         for done in range(most):
-            line, ending = self.told_turn(done, view)
+            line, ending = self.turn(done, view)
             yield line
             if ending:
                 cause = exception_text(self.system[13] >> 2 & 31)
@@ -396,35 +354,20 @@ class Machine:
 
     def end(self, view, done, why):
         yield f"end after {done}: {why}\n"
-        for n, value in enumerate(self.seen()):
-            yield f"{register_text(n, view.names)} {value:08X}\n"
-        for name, value in self.others().items():
-            yield f"{name} {value:08X}{fields_text(name, value)}\n"
+        yield from (f"{register_text(n, view.names)} {value:08X}\n" for n, value in enumerate(self.seen()))
+        yield from (f"{name} {value:08X}{fields_text(name, value)}\n" for name, value in self.others().items())
         yield f"Random {self.random}\n"
-        for k, entry in enumerate(self.slots):
-            yield f"slot {k} {entry}\n" if entry.low & 0x200 else ""
-        for k, entry in enumerate(self.slots):
-            other = next((j for j in range(k + 1, SLOTS) if entry.meets(self.slots[j])), None)
-            yield "" if other is None else f"slots {k} and {other} match each other, which the architecture forbids\n"
+        yield from (f"slot {k} {entry}\n" for k, entry in enumerate(self.slots) if entry.low & 0x200)
+        firsts = {k: j for k, j in reversed([*combinations(range(SLOTS), 2)]) if self.meet(k, j)}  # of each slot the first that it matches
+        yield from (MATCH.format(k, firsts[k]) for k in sorted(firsts))
         for line in range(4):
             yield f"sent {line} {''.join(f'{byte:02X}' for it, byte in self.sent if it == line)}\n"
         if view.counts:
-            yield from self.counted(done)
+            yield f"instructions {done}\n"
+            yield from (f"{name} {count}\n" for name, count in {**self.counts, "characters out": len(self.sent)}.items())
+            yield from (f"exception {exception_text(code)}: {count}\n" for code, count in enumerate(self.entered) if count)
         for address, count in view.memory:
-            yield from self.words_text(address, count)
-
-    def counted(self, done):
-        yield f"instructions {done}\n"
-        for name, count in {**self.counts, "characters out": len(self.sent)}.items():
-            yield f"{name} {count}\n"
-        for code, count in enumerate(self.entered):
-            yield f"exception {exception_text(code)}: {count}\n" if count else ""
-
-    def words_text(self, address, count):
-        """Words of memory, eight in a line."""
-        for first in range(0, count, 8):
-            places = [address + 4 * k for k in range(first, min(first + 8, count))]
-            yield f"memory {places[0]:08X}: {' '.join(f'{self.bus.word(it):08X}' for it in places)}\n"
+            yield from memory_lines("", address, count, lambda it: f"{self.bus.word(it):08X}")
 
 
 def fields_text(name, w):
@@ -439,21 +382,18 @@ def fields_text(name, w):
         case _: return ""
 
 
-# Commands and rows.
-
 def told(read, words):
     """What `dsmon` writes for these words, the first of which is `bare`, with a function from a file's name to its text."""
     (_, source, most), flags = asked(words)
-    number = lambda flag, other: int(flags[flag][-1]) if flag in flags else other  # noqa: E731
-    memory = [it.split(":") for it in flags.get("memory", ())]
-    view = View("quiet" in flags, number("from", 0), number("to", None), flags.get("only", [None])[-1], "matches" in flags, "counts" in flags, [(int(address, 16), int(count)) for address, count in memory], "names" in flags)
-    lines = [line.split(" ") for line in read(flags["keys"][-1]).splitlines()] if "keys" in flags else []
-    keys = [(int(o[0]), int(o[2]), byte) for o in lines if o[1:2] == ["key"] for byte in bytes.fromhex(o[3])]
-    return "".join(Machine(image(read(source)), number("random", 63), keys).run(int(most), view)).encode()
+    memory = [(int(address, 16), int(count)) for address, count in (it.split(":") for it in flags.get("memory", ()))]
+    window = number(flags, "from", 0), number(flags, "to", math.inf), flags.get("only", [None])[-1]
+    view = View("quiet" in flags, *window, "matches" in flags, "counts" in flags, memory, "names" in flags)
+    events = events_of(read(flags["keys"][-1]), ()) if "keys" in flags else ()
+    keys = [(time, line, byte) for time, what, line, *held in events if what == "key" for byte in held[0]]
+    return "".join(Machine(image(read(source)), number(flags, "random", 63), keys).run(int(most), view)).encode()
 
 
 def files():
-    """The texts of the rows of bare runs."""
     return [(it.text, told(files_in(it.folder), it.words)) for it in case_files.rows() if it.words[0] == "bare" and it.status == 0]
 
 

@@ -5,7 +5,7 @@
     tools/believe.py --check   says where the page, or a clause in docs/theorems.md, differs; the status is 1 then
     tools/believe.py --of FILE FUNCTION CLAUSE..   prints the definitions on which these clauses of a function rest, or all
 
-The lists stand in tools/believe/page.py. A name that can't be followed, a field that no type of the lists has, a clause of `run_files` that is in no
+The lists stand in tools/believe/lists.toml. A name that can't be followed, a field that no type of the lists has, a clause of `run_files` that is in no
 list, and one that docs/theorems.md doesn't show are told with their places, and the status is 1. So are a definition of specs/ in no list that stands neither below Inner nor
 below Rows, and a name that two modules besides these give to different things, unless the glossary has it among its homonyms.
 """
@@ -20,21 +20,16 @@ from believe.shown import DOCUMENT, shown
 TOP = Path(__file__).resolve().parent.parent
 
 
-def tell(repository, path, function, clauses):
-    """Prints the definitions on which clauses of a function rest."""
-    reached = repository.rests_on(named_by(repository, path, function, clauses)[1].found.values())
-    for it in reached.values():
-        print(f"{it.path}:{it.line}: {it.name}, {len(it.own)} lines")
-    print(f"{len(reached)} definitions, {sum(it.code for it in reached.values())} lines and {sum(it.comments for it in reached.values())} of comments")
-
-
 def main(words, top=TOP, lists=LISTS):
     if words[:1] == ["--of"] and len(words) > 2:
+        repository = Repository(top)
         try:
-            tell(Repository(top), words[1], words[2], words[3:])
+            reached = repository.rests_on(named_by(repository, *words[1:3], words[3:])[1].found.values()).values()
         except Unresolved as fault:
             print(fault)
             return 1
+        print("".join(f"{it.path}:{it.line}: {it.name}, {len(it.own)} lines\n" for it in reached), end="")
+        print(f"{len(reached)} definitions, {sum(it.code for it in reached)} lines and {sum(it.comments for it in reached)} of comments")
         return 0
     if words not in ([], ["--check"]):
         print(__doc__)

@@ -5,9 +5,6 @@ It needs `make` and the compiler, Debian's gcc-mipsel-linux-gnu. With --check no
 another than the one that is noted in examples/c/compiler, that is said, and the status is 0. It is 1 where the noted
 compiler makes other words.
 """
-import argparse
-import contextlib
-import io
 import shutil
 import subprocess
 import sys
@@ -15,6 +12,7 @@ import tempfile
 from pathlib import Path
 
 import elf_to_policy
+from rooms import said
 
 TOP = Path(__file__).resolve().parent.parent
 EXAMPLES = TOP / "examples" / "c"
@@ -34,8 +32,8 @@ def tools_here():
     """The first lines that the compiler and the linker tell of themselves, or None where one is missing."""
     if not all(map(shutil.which, ("make", COMPILER, LINKER))):
         return None
-    said = [subprocess.run([it, "--version"], capture_output=True, text=True, check=True).stdout for it in (COMPILER, LINKER)]
-    return "".join(f"{it.splitlines()[0]}\n" for it in said)
+    told = [subprocess.run([it, "--version"], capture_output=True, text=True, check=True).stdout for it in (COMPILER, LINKER)]
+    return "".join(f"{it.splitlines()[0]}\n" for it in told)
 
 
 def written(folder):
@@ -53,10 +51,9 @@ def made():
         into = Path(room, "policies")
         into.mkdir()
         for words, programs in POLICIES:
-            with contextlib.redirect_stdout(io.StringIO()):
-                status = elf_to_policy.main([*words, "--into", str(into), *(f"{room}/{it}.elf" for it in programs)])
+            status, _, why = said(elf_to_policy.main, [*words, "--into", str(into), *(f"{room}/{it}.elf" for it in programs)])
             if status:
-                sys.exit(f"c_examples: {' '.join(programs)} can't be made a policy")
+                sys.exit(f"c_examples: {' '.join(programs)} can't be made a policy: {why}")
         return written(into)
 
 
@@ -66,29 +63,20 @@ def different(texts):
     return sorted(it for it in texts.keys() | there.keys() if texts.get(it) != there.get(it))
 
 
-def check(here):
-    """Whether the files are as the compiler makes them, told in a line; the status."""
-    noted = (EXAMPLES / "compiler").read_text("ascii")
-    if here is None:
-        print(f"c_examples: no {COMPILER}, so nothing is compared")
-        return 0
-    others = different(made())
-    print(f"c_examples: {', '.join(others)}: other words" if others else "c_examples: the same words")
-    if others and here != noted:
-        print(f"c_examples: they were made by\n{noted}and compiled by\n{here}", end="")
-    return 1 if others and here == noted else 0
-
-
 def main(words):
-    parser = argparse.ArgumentParser(description=__doc__, formatter_class=argparse.RawDescriptionHelpFormatter)
-    parser.add_argument("--check", action="store_true", help="write nothing; say whether the files are the same")
-    here = tools_here()
-    if parser.parse_args(words).check:
-        return check(here)
+    here, noted, is_check = tools_here(), (EXAMPLES / "compiler").read_text("ascii"), words == ["--check"]
+    if words and not is_check:
+        sys.exit(__doc__)
     if here is None:
-        sys.exit(f"c_examples: no {COMPILER}: apt-get install make gcc-mipsel-linux-gnu")
+        print(f"c_examples: no {COMPILER}" + (", so nothing is compared" if is_check else ": apt-get install make gcc-mipsel-linux-gnu"))
+        return 0 if is_check else 1
     texts = made()
-    for name in different(texts):
+    others = different(texts)
+    if is_check:
+        print(f"c_examples: {', '.join(others)}: other words" if others else "c_examples: the same words")
+        print(f"c_examples: they were made by\n{noted}and compiled by\n{here}" if others and here != noted else "", end="")
+        return 1 if others and here == noted else 0
+    for name in others:
         (EXAMPLES / name).write_text(texts[name], "ascii") if name in texts else (EXAMPLES / name).unlink()
     (EXAMPLES / "compiler").write_text(here, "ascii")
     print(f"c_examples: {len(texts)} files")

@@ -1,30 +1,15 @@
-"""What the scripts share that write data of tests: rows and tables of cases, policies, and files that are written or compared."""
+"""What scripts share that write files: rows and tables of cases, policies, tables of documents, and files that are written or compared."""
 import re
 import sys
+from collections import namedtuple
 from pathlib import Path
-from typing import NamedTuple
 
 DATA = Path(__file__).resolve().parent.parent / "crates" / "rows" / "data"
 
-
-class Row(NamedTuple):
-    """A line of data/rows: its folder, its status, the file of its text, and its words."""
-
-    line: str
-    folder: Path
-    status: int
-    text: Path
-    words: list
-
-
-class Table(NamedTuple):
-    """A line of data/tables: its folder, the file in whose place a case's text stands, the file of the cases, and its words."""
-
-    line: str
-    folder: Path
-    file: str
-    cases: Path
-    words: list
+# A line of data/rows: its folder, its status, the file of its text, and its words.
+Row = namedtuple("Row", "line folder status text words")
+# A line of data/tables: its folder, the file in whose place a case's text stands, the file of the cases, and its words.
+Table = namedtuple("Table", "line folder file cases words")
 
 
 def index(name):
@@ -97,11 +82,16 @@ def policy_text(about, frames, rate, processes, pages, rules, digits="08x"):
     return "\n".join([*lines, "]", ""])
 
 
-def main(files, told=None):
+def table(head, rows):
+    """A table of a document, in lines."""
+    return ["| " + " | ".join(head) + " |", "|" + "---|" * len(head), *("| " + " | ".join(map(str, it)) + " |" for it in rows)]
+
+
+def main(files, told=None, words=None):
     """The command of a script that makes files, pairs of a path and its text or bytes: it writes them, or by --check tells which are otherwise.
 
     That of a model has --write for it; and by FOLDER WORDS.. it writes what it tells for the words after `dsmon`, with names looked up from FOLDER."""
-    words, name = sys.argv[1:], Path(sys.argv[0]).stem
+    words, name = sys.argv[1:] if words is None else words, Path(sys.argv[0]).stem
     if told and len(words) > 1:
         sys.stdout.buffer.write(told(files_in(Path(words[0])), words[1:]))
         return 0

@@ -9,16 +9,12 @@ the program writes has to be, to the byte, what the list tells.
 
 The program is crates/dsmon/out/dsmon, or --program FILE. Where there is none the script says so, and its status is 0.
 """
-import argparse
 import random
 import sys
-from pathlib import Path
+from itertools import takewhile
 
-sys.dont_write_bytecode = True
-sys.path.insert(0, str(Path(__file__).resolve().parent))
-
-import debug_sessions as sessions  # noqa: E402
-import trace_model  # noqa: E402
+import debug_sessions as sessions
+import trace_model
 
 # The folder below examples/, the policy, the input, and N. The last is long enough that stations of it are kept.
 RUNS = [
@@ -76,10 +72,6 @@ def positions(folder, policy, given, n):
     return found
 
 
-def little(word):
-    return word.to_bytes(4, "little").hex()
-
-
 def shown(text):
     """The packets by which a text is shown."""
     return ["O" + text[at : at + 1000].hex() for at in range(0, len(text), 1000)]
@@ -90,7 +82,8 @@ def register(values, number):
     general, hi, lo, pc = values
     if number in (26, 27) or number in (32, 35, 36) or number > 37:
         return "xxxxxxxx"
-    return little(general[number] if number < 32 else {33: lo, 34: hi, 37: pc}[number])
+    value = general[number] if number < 32 else {33: lo, 34: hi, 37: pc}[number]
+    return value.to_bytes(4, "little").hex()
 
 
 class Debugger:
@@ -113,30 +106,21 @@ class Debugger:
                 return p, (f"watch:{address:08X};", 5)
         return None
 
-    def unit_stop(self, k, actions):
-        p, new = self.path[k - 1].runner, self.path[k].log[len(self.path[k - 1].log) :]
-        action = actions.get(p)
-        if not action:
-            return None
-        words = new[0].split(" ") if new else []
-        if len(words) == 7 and words[6] in SIGNALS:
-            return p, ("", SIGNALS[words[6]])
-        pc = self.path[k].registers[p][3]
-        is_done = action[0] == "s" or action[0] == "r" and not (pc - action[1]) % 2**32 < (action[2] - action[1]) % 2**32
-        return (p, REST) if is_done else None
-
-    def break_stop(self, k, actions):
-        p = self.path[k].runner
-        return (p, ("swbreak:;", 5)) if actions.get(p) and (p, self.path[k].registers[p][3]) in self.breaks else None
-
     def stop(self, k, actions):
-        return self.watched(k, actions) or self.unit_stop(k, actions) or self.break_stop(k, actions)
+        """Who stops there and why, of what the process watches, its unit, and the place of who runs next."""
+        if found := self.watched(k, actions):
+            return found
+        (before, now), action = self.path[k - 1:k + 1], actions.get(self.path[k - 1].runner)
+        words = now.log[len(before.log)].split(" ") if len(now.log) > len(before.log) else []
+        if action and len(words) == 7 and words[6] in SIGNALS:
+            return before.runner, ("", SIGNALS[words[6]])
+        pc = now.registers[before.runner][3] if action else 0
+        if action and (action[0] == "s" or action[0] == "r" and not (pc - action[1]) % 2**32 < (action[2] - action[1]) % 2**32):
+            return before.runner, REST
+        p = now.runner
+        return (p, ("swbreak:;", 5)) if actions.get(p) and (p, now.registers[p][3]) in self.breaks else None
 
     # Where a session goes.
-
-    def first_at(self, time):
-        """Where a run to a time ends."""
-        return next((k for k, it in enumerate(self.path) if it.time >= time), len(self.path) - 1)
 
     def moved(self, old):
         """A time that was asked for and passed is asked for no more."""
@@ -172,43 +156,38 @@ class Debugger:
             if at is None:
                 at, found = old, (p, ("replaylog:begin;", 5) if time == 0 else ("", 2))
         else:
-            at, found = self.last_stop(old, {q: CONTINUE for q in self.path[0].registers if self.going in (None, q)})
-            asked = self.stop_at
+            actions, (at, found), asked = {q: CONTINUE for q in self.path[0].registers if self.going in (None, q)}, (0, None), self.stop_at
+            for k in range(old, 0, -1):  # (where the session stands, only what is watched stops)
+                if found := self.stop(k, actions) if k < old else self.watched(k, actions):
+                    at = k
+                    break
             if asked is not None and asked < min(time, self.n) and (found is None or self.path[at].time < asked):
-                at, found = self.first_at(asked), (p, REST)
+                at, found = next((k for k, it in enumerate(self.path) if it.time >= asked), len(self.path) - 1), (p, REST)
             found = found or (p, ("replaylog:begin;", 5))
         self.at = at
         self.moved(time)
         return [self.told(*found)]
 
-    def last_stop(self, old, actions):
-        """The last place at which something stops; where the session stands, only what is watched does."""
-        for k in range(old, 0, -1):
-            found = self.stop(k, actions) if k < old else self.watched(k, actions)
-            if found:
-                return k, found
-        return 0, None
-
     # What is answered to a packet.
 
     def answer(self, packet):
         """The texts of the packets that are answered."""
-        letter, rest = packet[0], packet[1:]
-        if packet.startswith("vCont;"):
-            return self.forward(self.actions(packet[6:].split(";")))
-        if packet in ("s", "c"):
-            return self.forward({p: (packet,) for p in self.path[0].registers if self.going in (None, p)})
-        if packet in ("bs", "bc"):
-            return self.backward(packet == "bs")
-        if packet.startswith("qRcmd,"):
-            return self.monitor(bytes.fromhex(rest[5:]).decode())
-        if letter in "Zz":
-            kind, address, length = rest.split(",")
-            return [self.set(letter == "Z", kind, int(address, 16), int(length, 16))]
-        if letter == "H":
-            p = 0 if rest[1:] == "-1" else int(rest[2:].split(".")[0], 16)
-            return [self.named(rest[0], p or None)]
-        return [self.looked(letter, rest)]
+        rest, values = packet[1:], self.here().registers[self.process]
+        match packet[0]:
+            case "v": return self.forward(self.actions(rest.removeprefix("Cont;").split(";")))
+            case "s" | "c": return self.forward({p: (packet,) for p in self.path[0].registers if self.going in (None, p)})
+            case "b": return self.backward(packet == "bs")
+            case "q": return self.monitor(bytes.fromhex(rest.removeprefix("Rcmd,")).decode())
+            case "Z" | "z":
+                kind, *place = rest.split(",")
+                return [self.set(packet[0] == "Z", kind == "2", *(int(it, 16) for it in place))]
+            case "H": return [self.named(rest[0], None if rest[1:] == "-1" else int(rest[2:].split(".")[0], 16) or None)]
+            case "g": return ["".join(register(values, number) for number in range(38))]
+            case "p": return [register(values, int(rest, 16))]
+            case "m":
+                address, length = (int(it, 16) for it in rest.split(","))
+                found = (self.here().byte(self.process, place) for place in range(address, address + length))
+                return [bytes(takewhile(lambda it: it is not None, found)).hex() or "E14"]
 
     def actions(self, words):
         found = {}
@@ -227,12 +206,10 @@ class Debugger:
         goes = "goes on" if self.here().goes_on(self.n) else "is over"
         return [*shown(f"time {self.here().time} of {self.n}, {goes}\n".encode()), "OK"]
 
-    def set(self, sets, kind, address, length):
-        is_watch = kind == "2"
+    def set(self, sets, is_watch, address, length):
         listed, it = (self.watches, (self.process, address, length)) if is_watch else (self.breaks, (self.process, address))
         if not sets:
-            if it in listed:
-                listed.remove(it)
+            listed[:] = [other for other in listed if other != it]
         elif is_watch and length > 64:
             return "E16"
         elif it not in listed:
@@ -249,21 +226,6 @@ class Debugger:
         elif p is not None:
             self.process = p
         return "OK"
-
-    def looked(self, letter, rest):
-        values = self.here().registers[self.process]
-        if letter == "g":
-            return "".join(register(values, number) for number in range(38))
-        if letter == "p":
-            return register(values, int(rest, 16))
-        address, length = (int(it, 16) for it in rest.split(","))
-        bytes_ = []
-        for place in range(address, address + length):
-            byte = self.here().byte(self.process, place)
-            if byte is None:
-                break
-            bytes_.append(byte)
-        return bytes(bytes_).hex() or "E14"
 
 
 def places(path):
@@ -302,7 +264,7 @@ def drawn(path, draw, number):
     return packets[:number]
 
 
-class Drawn:
+class Drawn(sessions.Session):
     """A session of these packets, in the form in which debug_sessions.py holds one."""
 
     def __init__(self, run, path, packets):
@@ -315,32 +277,21 @@ class Drawn:
             self.steps.append((True, sessions.framed(packet)))
             self.steps += [(False, sessions.framed(text)) for text in debugger.answer(packet)]
 
-    def all_of(self, sent):
-        return b"".join(it for which, it in self.steps if which == sent)
-
     def fault(self, program):
         """What comes otherwise than the list has it, or nothing."""
-        outcome = sessions.at_once(program, self, 1 << 20)
-        return sessions.fault_of(self, outcome)
+        return sessions.fault_of(self, sessions.held(program, self, [(True, self.all_of(True))]))
 
 
 def main(words=None):
-    parser = argparse.ArgumentParser(description=__doc__, formatter_class=argparse.RawDescriptionHelpFormatter)
-    parser.add_argument("--program", type=Path, default=sessions.TOP / "crates/dsmon/out/dsmon")
-    parser.add_argument("--times", type=int, default=20)
-    parser.add_argument("--seed", type=int, default=0)
-    parser.add_argument("--packets", type=int, default=60)
-    asked = parser.parse_args(words)
-    program = asked.program.resolve()
-    if not program.is_file():
-        print(f"skipped: there is no {asked.program}")
+    asked = sessions.asked(__doc__, words, times=20, seed=0, packets=60)
+    if asked is None:
         return 0
     wrong = held = 0
     for run in RUNS:
         path = positions(*run)
         for seed in range(asked.seed, asked.seed + asked.times):
             session = Drawn(run, path, drawn(path, random.Random(f"{run[1]} {seed}"), asked.packets))
-            fault, held = session.fault(str(program)), held + 1
+            fault, held = session.fault(str(asked.program)), held + 1
             if fault:
                 wrong += 1
                 print(f"{run[1]}, draw {seed}: {fault}\n    {' '.join(session.packets)}")

@@ -18,6 +18,7 @@ A file NAME.session has a line of words, as `$ debug POLICY INPUT N`, given in e
 The program is crates/dsmon/out/dsmon, or --program FILE. Where there is none the script says so, and its status is 0.
 """
 import argparse
+import contextlib
 import os
 import re
 import select
@@ -49,24 +50,17 @@ class Session:
         self.folder = TOP / "examples"
         for line in path.read_text("utf-8").splitlines():
             sort, _, rest = line.partition(" ")
-            if sort == "$":
-                self.words = rest.split()
-            elif sort == ">":
-                self.steps.append((True, framed(rest)))
-            elif sort == ">>":
-                self.steps.append((True, raw(rest)))
-            elif sort == "<":
-                self.steps.append((False, framed(rest)))
-            elif sort in ("+", "-"):
-                self.steps.append((False, sort.encode()))
-            elif sort == "!":
-                self.told += rest.encode() + b"\n"
-            elif sort == "@":
-                self.folder = TOP / "examples" / rest
-            elif sort == "=":
-                self.status = int(rest)
-            elif sort not in ("", "#"):
-                raise ValueError(f"{path}: {line}")
+            match sort:
+                case "$": self.words = rest.split()
+                case ">": self.steps.append((True, framed(rest)))
+                case ">>": self.steps.append((True, raw(rest)))
+                case "<": self.steps.append((False, framed(rest)))
+                case "+" | "-": self.steps.append((False, sort.encode()))
+                case "!": self.told += rest.encode() + b"\n"
+                case "@": self.folder = TOP / "examples" / rest
+                case "=": self.status = int(rest)
+                case "" | "#": pass
+                case _: raise ValueError(f"{path}: {line}")
 
     def all_of(self, sent):
         """All that is sent, or all that has to come."""
@@ -75,64 +69,32 @@ class Session:
 
 def received(process, count):
     """So many bytes of what a process writes, or fewer where it ends or takes too long."""
-    came, end = b"", time.monotonic() + SECONDS
-    while len(came) < count and time.monotonic() < end:
-        if select.select([process.stdout], [], [], end - time.monotonic())[0]:
-            more = os.read(process.stdout.fileno(), count - len(came))
-            if not more:
-                break
-            came += more
+    came, more, end = b"", b"any", time.monotonic() + SECONDS
+    while more and len(came) < count and select.select([process.stdout], [], [], max(0, end - time.monotonic()))[0]:
+        came += (more := os.read(process.stdout.fileno(), count - len(came)))
     return came
 
 
-def started(program, session):
-    """The program, begun with the words of a session."""
-    return subprocess.Popen([program, *session.words], cwd=session.folder, stdin=subprocess.PIPE, stdout=subprocess.PIPE, stderr=subprocess.PIPE, bufsize=0)
-
-
-def ended(process, came):
-    """What came in all, and how the process ended."""
-    with process:
-        process.stdin.close()
-        came += process.stdout.read()
-        told = process.stderr.read()
-        return came, told, process.wait(SECONDS)
-
-
-def send(process, text):
-    try:
-        process.stdin.write(text)
-    except BrokenPipeError:
-        pass
-
-
-def in_lock_step(program, session):
-    process = started(program, session)
-    came = b""
-    for sent, text in session.steps:
-        if sent:
-            send(process, text)
-        else:
+def held(program, session, steps):
+    """What comes of steps, of which what is to come is waited for before the next piece is sent: all that came, what was told, and the status."""
+    pipe, came = subprocess.PIPE, b""
+    with subprocess.Popen([program, *session.words], cwd=session.folder, stdin=pipe, stdout=pipe, stderr=pipe, bufsize=0) as process:
+        for sent, text in steps:
+            if sent:
+                with contextlib.suppress(BrokenPipeError):
+                    process.stdin.write(text)
+                continue
             more = received(process, len(text))
             came += more
             if more != text:
                 break
-    return ended(process, came)
-
-
-def at_once(program, session, piece):
-    """All that is sent, in pieces of so many bytes."""
-    process = started(program, session)
-    text = session.all_of(True)
-    for at in range(0, len(text), piece):
-        send(process, text[at : at + piece])
-    return ended(process, b"")
+        process.stdin.close()
+        return came + process.stdout.read(), process.stderr.read(), process.wait(SECONDS)
 
 
 def fault_of(session, outcome):
     """What is otherwise than the session has it, or nothing."""
-    came, told, status = outcome
-    wanted = session.all_of(False)
+    (came, told, status), wanted = outcome, session.all_of(False)
     if came != wanted:
         at = next((i for i, (a, b) in enumerate(zip(came, wanted)) if a != b), min(len(came), len(wanted)))
         return f"from byte {at} on {came[at : at + 120]!r} came, and {wanted[at : at + 120]!r} was to come"
@@ -145,33 +107,35 @@ def fault_of(session, outcome):
 
 def fault_in(program, session):
     """What is otherwise in any of the ways in which the session is held."""
-    for how, hold in (
-        ("in lock step", lambda: in_lock_step(program, session)),
-        ("at once", lambda: at_once(program, session, 1 << 20)),
-        ("by bytes", lambda: at_once(program, session, 1)),
-    ):
-        fault = fault_of(session, hold())
-        if fault:
-            return f"{how}: {fault}"
+    text = session.all_of(True)
+    ways = {"in lock step": session.steps, "at once": [(True, text)], "by bytes": [(True, bytes([it])) for it in text]}
+    return next((f"{how}: {fault}" for how, steps in ways.items() if (fault := fault_of(session, held(program, session, steps)))), None)
+
+
+def asked(about, words, *options, **numbers):
+    """What a script is asked that takes the program; none where that is not there, which it says."""
+    parser = argparse.ArgumentParser(description=about, formatter_class=argparse.RawDescriptionHelpFormatter)
+    parser.add_argument("--program", type=lambda it: Path(it).resolve(), default=TOP / "crates/dsmon/out/dsmon")
+    for name, default in numbers.items():
+        parser.add_argument(f"--{name}", type=int, default=default)
+    for name, how in options:
+        parser.add_argument(name, **how)
+    given = parser.parse_args(words)
+    if given.program.is_file():
+        return given
+    print(f"skipped: there is no {given.program}")
     return None
 
 
 def main(words=None):
-    parser = argparse.ArgumentParser(description=__doc__, formatter_class=argparse.RawDescriptionHelpFormatter)
-    parser.add_argument("--program", type=Path, default=TOP / "crates/dsmon/out/dsmon")
-    parser.add_argument("files", nargs="*", type=Path, default=sorted((TOP / "tools/debug").glob("*.session")))
-    asked = parser.parse_args(words)
-    program = asked.program.resolve()
-    if not program.is_file():
-        print(f"skipped: there is no {asked.program}")
-        return 0
+    given = asked(__doc__, words, ("files", {"nargs": "*", "type": Path, "default": sorted((TOP / "tools/debug").glob("*.session"))}))
     wrong = 0
-    for path in asked.files:
-        session = Session(path)
-        fault = fault_in(str(program), session)
+    for session in map(Session, given.files if given else ()):
+        fault = fault_in(str(given.program), session)
         print(f"{session.name}: {fault or 'as written'}")
         wrong += fault is not None
-    print(f"{len(asked.files) - wrong} of {len(asked.files)} sessions are as written")
+    if given:
+        print(f"{len(given.files) - wrong} of {len(given.files)} sessions are as written")
     return int(wrong > 0)
 
 

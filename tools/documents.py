@@ -1,5 +1,5 @@
 #!/usr/bin/env python3
-"""Checks the documents: with --check it tells each fault, and ends with status 1 where there is one.
+"""Checks the documents (--check): it tells each fault, and ends with status 1 where there is one.
 
 README.md has at most 120 lines, docs/theorems.md 450 and docs/DECISIONS.md 500, each of at most 120 columns. Each document
 in docs/ is named in README.md, or in a document that README.md names. What a link leads to is there, and so is each file or
@@ -7,7 +7,6 @@ folder of the repository that stands in backticks: one that begins at the top of
 such as `src/lib.rt`. Words in capitals stand for any name, as in `crates/NAME/wrong/`. What speaks of the past may name what
 is gone: CHANGELOG.md and docs/log.md.
 """
-import argparse
 import re
 import sys
 from pathlib import Path
@@ -24,35 +23,15 @@ ANY_NAME = re.compile(r"(?<![A-Za-z])[A-Z]{2,}(?![A-Za-z])")
 CAPITALS = {"README.md", "CONTRIBUTING.md", "CHANGELOG.md", "HANDLES", "DECISIONS.md"}
 
 
-def size_faults(path, text):
-    """What is wrong with the size of a document that has one."""
-    lines, most = text.splitlines(), LINES[path]
-    told = [f"{path}: {len(lines)} lines, at most {most}"] if len(lines) > most else []
-    return told + [f"{path}:{at}: {len(line)} columns, at most {COLUMNS}" for at, line in enumerate(lines, 1) if len(line) > COLUMNS]
-
-
 def documents(top):
     """The documents of the repository by their paths, each with its text."""
-    places = [*top.glob("*.md"), *top.glob("docs/*.md"), *top.glob("crates/*/README.md"), *top.glob("crates/*/data/README.md"), *top.glob("crates/*/data/*/README.md")]
-    return {str(it.relative_to(top)): it.read_text("utf-8") for it in sorted(places)}
+    places = ("*.md", "docs/*.md", "crates/*/README.md", "crates/*/data/README.md", "crates/*/data/*/README.md")
+    return {str(it.relative_to(top)): it.read_text("utf-8") for it in sorted(it for place in places for it in top.glob(place))}
 
 
 def names(text):
     """What stands in backticks, as paths: without the words of a command after a path."""
     return {it for it in CODE.findall(text) if PATH.match(it)}
-
-
-def unnamed(texts):
-    """The documents in docs/ that neither README.md names, nor a document that it names."""
-    readme = texts.get("README.md", "")
-    near = names(readme)
-    far = set().union(near, *(names(texts[it]) for it in near if it in texts))
-    return [it for it in texts if it.startswith("docs/") and it not in far]
-
-
-def stands_for_any(path):
-    """Whether a path has a word in capitals, which stands for any name."""
-    return any(part not in CAPITALS and ANY_NAME.search(part) for part in path.split("/"))
 
 
 def is_there(top, path):
@@ -63,33 +42,33 @@ def is_there(top, path):
 
 
 def missing(top, path, text):
-    """The paths that a document names, and its links, that lead nowhere."""
+    """The paths that a document names, and its links, that lead nowhere. A path with a word in capitals stands for any name."""
     tops = {it.name for it in top.iterdir() if it.is_dir()} | set(IN_A_CRATE)
     named = {it for it in names(text) if it.split("/")[0] in tops and "/" in it or it in CAPITALS}
-    told = [it for it in sorted(named) if not stands_for_any(it) and not is_there(top, it)]
-    links = [it for it in LINK.findall(text) if "://" not in it]
-    return told + [it for it in links if not ((top / path).parent / it).exists()]
+    is_any = lambda it: any(part not in CAPITALS and ANY_NAME.search(part) for part in it.split("/"))  # noqa: E731
+    told = [it for it in sorted(named) if not is_any(it) and not is_there(top, it)]
+    return told + [it for it in LINK.findall(text) if "://" not in it and not ((top / path).parent / it).exists()]
 
 
 def faults(top):
     """All that is wrong with the documents below a folder."""
     texts = documents(top)
     told = [] if "README.md" in texts else ["README.md: missing"]
-    told += [fault for path in LINES if path in texts for fault in size_faults(path, texts[path])]
-    told += [f"{it}: named neither by README.md nor by a document that it names" for it in unnamed(texts)]
+    for path, most in LINES.items():
+        held = texts.get(path, "").splitlines()
+        told += [f"{path}: {len(held)} lines, at most {most}"] if len(held) > most else []
+        told += [f"{path}:{at}: {len(it)} columns, at most {COLUMNS}" for at, it in enumerate(held, 1) if len(it) > COLUMNS]
+    near = names(texts.get("README.md", ""))
+    far = near.union(*(names(texts[it]) for it in near if it in texts))
+    told += [f"{it}: named neither by README.md nor by a document that it names" for it in texts if it.startswith("docs/") and it not in far]
     return told + [f"{path}: `{it}` is not there" for path in texts if path not in PAST for it in missing(top, path, texts[path])]
 
 
-def main(words):
-    parser = argparse.ArgumentParser(description=__doc__, formatter_class=argparse.RawDescriptionHelpFormatter)
-    parser.add_argument("--check", action="store_true", required=True, help="tell each fault; end with status 1 where there is one")
-    parser.parse_args(words)
+def main():
     told = faults(TOP)
-    for it in told:
-        print(f"documents: {it}")
-    print(f"documents: {len(documents(TOP))} documents, {len(told)} faults")
+    print("".join(f"documents: {it}\n" for it in told) + f"documents: {len(documents(TOP))} documents, {len(told)} faults")
     return 1 if told else 0
 
 
 if __name__ == "__main__":
-    sys.exit(main(sys.argv[1:]))
+    sys.exit(main())

@@ -1,5 +1,6 @@
 """Reads an ELF executable for MIPS I, little-endian, as the program of a process: its pages, or why it can't run in dsmon."""
 import struct
+from collections import namedtuple
 from dataclasses import dataclass, field
 
 from later_instructions import later
@@ -28,17 +29,14 @@ class Refused(Exception):
     """Why there is no policy."""
 
 
-@dataclass(frozen=True)
-class Segment:
-    """A part of memory: its address, its bytes in the file, its size with the zeros after them, and its flags."""
-    address: int
-    data: bytes
-    size: int
-    flags: int
+def refuse(is_so, why):
+    """Refuses what is so, and tells why."""
+    if is_so:
+        raise Refused(why)
 
-    @property
-    def end(self):
-        return self.address + self.size
+
+# A part of memory: its address, its bytes in the file, its end with the zeros after them, and its flags.
+Segment = namedtuple("Segment", "address data end flags")
 
 
 @dataclass
@@ -52,48 +50,29 @@ class Page:
         return "write" if self.flags & MAY_WRITE else "read"
 
 
-@dataclass(frozen=True)
-class Program:
-    """What a process runs: its name, where it starts, its pages by their addresses, and its code as addresses with bytes."""
-    name: str
-    start: int
-    pages: dict
-    code: list
+# What a process runs: its name, where it starts, its pages by their addresses, and its code as addresses with bytes.
+Program = namedtuple("Program", "name start pages code")
 
 
 def unpacked(form, data, at, what):
     """The numbers that stand at a place of a file, lowest byte first."""
-    if at + struct.calcsize("<" + form) > len(data):
-        raise Refused(f"it ends within its {what}")
+    refuse(at + struct.calcsize("<" + form) > len(data), f"it ends within its {what}")
     return struct.unpack_from("<" + form, data, at)
-
-
-def cut(data, at, size, what):
-    """The bytes that stand at a place of a file."""
-    if at + size > len(data):
-        raise Refused(f"it ends within its {what}")
-    return data[at:at + size]
 
 
 def check_kind(data):
     """Refuses what is no ELF executable for this machine, by name."""
     for begin, why in OTHER_FILES:
-        if data.startswith(begin):
-            raise Refused(why)
-    if not data.startswith(b"\x7fELF"):
-        raise Refused("no ELF file")
+        refuse(data.startswith(begin), why)
+    refuse(not data.startswith(b"\x7fELF"), "no ELF file")
     size, order, version = unpacked("BBB", data, 4, "header")
-    if size != 1:
-        raise Refused("an ELF file of 64 bits" if size == 2 else f"an ELF file of an unknown class, {size}")
+    refuse(size != 1, "an ELF file of 64 bits" if size == 2 else f"an ELF file of an unknown class, {size}")
     if order != 1:
         raise Refused("big-endian: compile it by mipsel- in place of mips-, or with -EL" if order == 2 else f"an ELF file of an unknown byte order, {order}")
     kind, machine, later_version = unpacked("HHI", data, 16, "header")
-    if version != 1 or later_version != 1:
-        raise Refused(f"an ELF file of version {max(version, later_version)}")
-    if machine != MIPS:
-        raise Refused(f"for another machine, number {machine} in ELF: MIPS is {MIPS}")
-    if kind != EXECUTABLE:
-        raise Refused(KINDS.get(kind, f"no executable: its type in ELF is {kind}"))
+    refuse(version != 1 or later_version != 1, f"an ELF file of version {max(version, later_version)}")
+    refuse(machine != MIPS, f"for another machine, number {machine} in ELF: MIPS is {MIPS}")
+    refuse(kind != EXECUTABLE, KINDS.get(kind, f"no executable: its type in ELF is {kind}"))
 
 
 def program_of(name, data, stack):
@@ -103,10 +82,12 @@ def program_of(name, data, stack):
     if (size, header_size) != (52, 32) or section_count and section_size != 40:
         raise Refused("its header tells other sizes than those of ELF")
     rows = [unpacked("8I", data, headers + 32 * k, "program headers") for k in range(count)]
-    if any(row[0] in (DYNAMIC, INTERPRETER) for row in rows):
-        raise Refused("dynamic: link it with -static -fno-pic")
+    refuse(any(row[0] in (DYNAMIC, INTERPRETER) for row in rows), "dynamic: link it with -static -fno-pic")
     segments = [segment_of(data, row) for row in rows if row[0] == LOAD and row[4:6] != (0, 0)]
-    check_places(segments)
+    refuse(not segments, "it has no segment to load")
+    order = sorted(segments, key=lambda it: it.address)
+    for first, second in zip(order, order[1:]):
+        refuse(first.end > second.address, f"its segments at {first.address:08X} and {second.address:08X} overlap")
     code = code_of(segments, [unpacked("10I", data, sections + 40 * k, "section headers") for k in range(section_count)])
     check_code(code, flags)
     if start % 4 or not any(it.flags & MAY_RUN and it.address <= start < it.end for it in segments):
@@ -116,21 +97,11 @@ def program_of(name, data, stack):
 
 def segment_of(data, row):
     _, place, address, _, in_file, size, flags, _ = row
-    if in_file > size:
-        raise Refused(f"its segment at {address:08X} has more bytes in the file than in memory")
+    refuse(in_file > size, f"its segment at {address:08X} has more bytes in the file than in memory")
     if address + size > KERNEL:
         raise Refused(f"its segment at {address:08X} reaches beyond 7FFFFFFF: addresses from 80000000 up are the kernel's")
-    return Segment(address, cut(data, place, in_file, f"segment at {address:08X}"), size, flags)
-
-
-def check_places(segments):
-    """Refuses segments that lie upon each other, or none."""
-    if not segments:
-        raise Refused("it has no segment to load")
-    order = sorted(segments, key=lambda it: it.address)
-    for first, second in zip(order, order[1:]):
-        if first.end > second.address:
-            raise Refused(f"its segments at {first.address:08X} and {second.address:08X} overlap")
+    refuse(place + in_file > len(data), f"it ends within its segment at {address:08X}")
+    return Segment(address, data[place:place + in_file], address + size, flags)
 
 
 def code_of(segments, sections):
@@ -142,8 +113,7 @@ def code_of(segments, sections):
         if not flags & IN_MEMORY or flags & OF_THREAD or size == 0:
             continue
         place = next((it for it in segments if it.address <= address and address + size <= it.end), None)
-        if place is None:
-            raise Refused(f"its section at {address:08X} lies in no segment")
+        refuse(place is None, f"its section at {address:08X} lies in no segment")
         if flags & HAS_CODE:
             found.append((address, place.data[address - place.address:address - place.address + size]))
     return found
@@ -162,8 +132,7 @@ def check_code(code, flags):
         if found := later(word):
             name, architecture = found
             raise Refused(f"`{name}` at {address:08X} is an instruction of {architecture}: compile with -march=r3000, and link no library that is made for it")
-    if flags & 0x0600_0000:
-        raise Refused("code of microMIPS or MIPS16")
+    refuse(flags & 0x0600_0000, "code of microMIPS or MIPS16")
     architecture = flags >> 28
     if architecture:
         name = ARCHITECTURES[architecture] if architecture < len(ARCHITECTURES) else f"architecture {architecture}"
@@ -172,7 +141,8 @@ def check_code(code, flags):
 
 def pages_of(segments, stack):
     """The pages of a process by their addresses, in order, with a stack of so many pages."""
-    check_limits(segments, stack)
+    spans = [(it.address // PAGE, (it.end - 1) // PAGE) for it in segments]
+    check_spans([*spans, (KERNEL // PAGE - stack, KERNEL // PAGE - 1)] if stack else spans)
     pages = {}
     for it in segments:
         for at in range(it.address // PAGE * PAGE, it.end, PAGE):
@@ -182,27 +152,18 @@ def pages_of(segments, stack):
             if low < high:
                 page.data[low - at:high - at] = it.data[low - it.address:high - it.address]
     for at in range(KERNEL - stack * PAGE, KERNEL, PAGE):
-        if at in pages:
-            raise Refused(f"it has bytes at {at:08X}, where its stack of {stack} pages lies")
+        refuse(at in pages, f"it has bytes at {at:08X}, where its stack of {stack} pages lies")
         pages[at] = Page(flags=MAY_READ | MAY_WRITE)
     return {at: pages[at] for at in sorted(pages) if pages[at].flags & (MAY_RUN | MAY_READ | MAY_WRITE)}
-
-
-def check_limits(segments, stack):
-    """Refuses segments and a stack that take more pages or regions than a process may have."""
-    spans = [(it.address // PAGE, (it.end - 1) // PAGE) for it in segments]
-    check_spans([*spans, (KERNEL // PAGE - stack, KERNEL // PAGE - 1)] if stack else spans)
 
 
 def check_spans(spans):
     """Refuses more pages or regions than a process may have, as numbers of a first and a last page."""
     count = sum(last - first + 1 for first, last in spans)
-    if count > MOST_PAGES:
-        raise Refused(f"{count} pages: a policy may have {MOST_PAGES}, and a process {MOST_ENTRIES}")
+    refuse(count > MOST_PAGES, f"{count} pages: a policy may have {MOST_PAGES}, and a process {MOST_ENTRIES}")
     pages = {page for first, last in spans for page in range(first, last + 1)}
     regions = sorted({page >> REGION_BITS - 12 for page in pages})
     if len(regions) > MOST_REGIONS:
         places = ", ".join(f"{it << REGION_BITS:08X}" for it in regions)
         raise Refused(f"{len(regions)} regions of 4 MiB, at {places}: a process may have {MOST_REGIONS}")
-    if len(pages) > MOST_ENTRIES:
-        raise Refused(f"{len(pages)} pages: a process may have {MOST_ENTRIES}")
+    refuse(len(pages) > MOST_ENTRIES, f"{len(pages)} pages: a process may have {MOST_ENTRIES}")

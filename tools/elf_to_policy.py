@@ -15,10 +15,10 @@ import re
 import shlex
 import struct
 import sys
-from dataclasses import dataclass, field
 from pathlib import Path
+from types import SimpleNamespace
 
-from elf_program import MAY_RUN, MAY_WRITE, MOST_ENTRIES, MOST_PAGES, PAGE, Program, Refused, program_of, words_of
+from elf_program import MAY_RUN, MAY_WRITE, MOST_ENTRIES, MOST_PAGES, PAGE, Program, Refused, program_of, refuse, words_of
 from guest_files import MOST_TICKS, check_data, data_of, keys_text
 from later_instructions import COPROCESSOR, FLOATING_POINT, coprocessor
 
@@ -28,19 +28,6 @@ LINES = 4
 PACE = 100_000  # ticks for 64 keys, which is far more than a program takes that reads them
 MOST_WRITTEN = 10_000_000  # bytes on consoles and log, so that a program that puts without end does not fill the memory
 HEAD = "# Written by tools/elf_to_policy.py"  # how each file begins that this script may write anew
-
-
-# Pages and sources
-
-
-@dataclass
-class Bundle:
-    """What is to be written: sources by their names, and the rows of the policy."""
-    sources: dict = field(default_factory=dict)
-    processes: list = field(default_factory=list)
-    pages: list = field(default_factory=list)
-    rules: list = field(default_factory=list)
-    warnings: list = field(default_factory=list)
 
 
 def places_of(program):
@@ -90,10 +77,10 @@ def add_data(bundle, number, data):
 
 def add_sources(bundle, program, places):
     """Adds the sources of a program or of data."""
-    if any(source in bundle.sources and bundle.sources[source] != source_text(program, places, source) for source, _ in places.values()):
-        raise Refused(f"two files are called {program.name}, and their sources would have one name")
     for source in dict.fromkeys(source for source, _ in places.values()):
-        bundle.sources[source] = source_text(program, places, source)
+        text = source_text(program, places, source)
+        if bundle.sources.setdefault(source, text) != text:
+            raise Refused(f"two files are called {program.name}, and their sources would have one name")
 
 
 def page_row(name, places, at):
@@ -115,29 +102,23 @@ def warnings_of(program):
 
 def policy_text(bundle):
     """The policy, which has a frame for as many copies as fit into the station."""
-    parts = [("process", bundle.processes), ("page", bundle.pages), ("rule", bundle.rules)]
     lines = [f"{HEAD}, which writes it anew each time. To keep a change, take this line away.", "version = 1", f"frames = {MOST_PAGES}"]
-    for key, rows in parts:
+    for key, rows in (("process", bundle.processes), ("page", bundle.pages), ("rule", bundle.rules)):
         lines += [f"{key} = [", *(f"    {it}" for it in rows), "]"]
     return "\n".join(lines) + "\n"
 
 
 def bundle_of(programs, datas, lines, give):
     """All that is to be written for these programs, in their order, with this data."""
-    bundle, firsts = Bundle(), {}
+    bundle, firsts = SimpleNamespace(sources={}, processes=[], pages=[], rules=[], warnings=[]), {}
     for number, program in enumerate(programs, 1):
         add_process(bundle, program, lines[min(number, len(lines)) - 1], give, firsts.get(program.name))
         firsts.setdefault(program.name, number)
     for number, data in enumerate(datas, 1):
         add_data(bundle, number, data)
-    if len(bundle.pages) > MOST_PAGES:
-        raise Refused(f"{len(bundle.pages)} pages in all: a policy may have {MOST_PAGES}")
-    if len(bundle.rules) > MOST_RULES:
-        raise Refused(f"{len(bundle.rules)} rules in all: a policy may have {MOST_RULES}")
+    refuse(len(bundle.pages) > MOST_PAGES, f"{len(bundle.pages)} pages in all: a policy may have {MOST_PAGES}")
+    refuse(len(bundle.rules) > MOST_RULES, f"{len(bundle.rules)} rules in all: a policy may have {MOST_RULES}")
     return bundle
-
-
-# The files
 
 
 def programs_of(paths, stack):
@@ -148,8 +129,7 @@ def programs_of(paths, stack):
         try:
             if places.setdefault(name, os.path.realpath(path)) != os.path.realpath(path):
                 raise Refused(f"another file is called {name} too, and their sources would have one name")
-            if not path.is_file():
-                raise Refused("no file of this name")
+            refuse(not path.is_file(), "no file of this name")
             found.append(program_of(name, path.read_bytes(), stack))
         except Refused as why:
             raise Refused(f"{path}: {why}") from None
@@ -166,13 +146,6 @@ def write_all(folder, texts):
         (folder / name).write_text(text, "ascii")
 
 
-def told(folder, name):
-    """The lines to type next. A run is over where its processes have ended, so it is given as many ticks as there may be; its summary says where they have not."""
-    policy, keys = f"{name}.toml", f"{name}.input"
-    there = [f"cd {shlex.quote(str(folder))}"] if folder != Path(".") else []
-    return [*there, f"dsmon check {policy}", f"dsmon run {policy} {keys} {MOST_TICKS} --summary --most {MOST_WRITTEN}"]
-
-
 def number_between(low, high):
     def read(word):
         if not re.fullmatch(r"[0-9]{1,10}", word) or not low <= int(word) <= high:
@@ -181,15 +154,11 @@ def number_between(low, high):
     return read
 
 
-def lines_of(words):
-    return [number_between(0, LINES - 1)(it) for it in words.split(",")]
-
-
 def options(words):
     parser = argparse.ArgumentParser(description=__doc__, formatter_class=argparse.RawDescriptionHelpFormatter)
     parser.add_argument("files", metavar="FILE", nargs="+", help="an executable; its process is numbered as it stands, from 1")
     parser.add_argument("--stack", type=number_between(0, MOST_ENTRIES), default=4, metavar="N", help="pages of each stack (4)")
-    parser.add_argument("--line", type=lines_of, default=[0], metavar="L[,L..]", help="the console line of each process; the last one is that of the rest (0)")
+    parser.add_argument("--line", type=lambda it: [*map(number_between(0, LINES - 1), it.split(","))], default=[0], metavar="L[,L..]", help="the console line of each process; the last one is that of the rest (0)")
     parser.add_argument("--give", action="store_true", help="each process may give away the pages that it may write")
     parser.add_argument("--data", action="append", default=[], metavar="FILE@ADDRESS", help="each process may read the bytes of the file, in pages from this address on")
     parser.add_argument("--keys", type=Path, metavar="FILE", help="the bytes of the file come in on the line of process 1, and control D after them")
@@ -200,8 +169,7 @@ def options(words):
 
 def texts_of(wanted):
     """The texts to be written by their names, the policy first, and what is to be warned of."""
-    if len(wanted.files) > MOST_PROCESSES:
-        raise Refused(f"{len(wanted.files)} files: a policy may have {MOST_PROCESSES} processes")
+    refuse(len(wanted.files) > MOST_PROCESSES, f"{len(wanted.files)} files: a policy may have {MOST_PROCESSES} processes")
     programs, datas = programs_of(wanted.files, wanted.stack), [data_of(it) for it in wanted.data]
     check_data(datas, programs, wanted.stack)
     bundle = bundle_of(programs, datas, wanted.line, wanted.give)
@@ -225,7 +193,9 @@ def main(words):
         return 2
     for it in warnings:
         print(f"elf_to_policy: warning: {it}", file=sys.stderr)
-    print("\n".join(told(wanted.into, name)))
+    # (a run is over where its processes have ended, so it is given as many ticks as there may be; its summary says where they have not)
+    there = "" if wanted.into == Path(".") else f"cd {shlex.quote(str(wanted.into))}\n"
+    print(f"{there}dsmon check {name}.toml\ndsmon run {name}.toml {name}.input {MOST_TICKS} --summary --most {MOST_WRITTEN}")
     return 0
 
 

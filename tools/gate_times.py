@@ -11,14 +11,14 @@ is lost, and a process that is shorter than that is not seen. With --keep FILE w
 The status is that of the command.
 """
 import argparse
+import contextlib
 import json
 import os
 import subprocess
 import sys
 import time
-from collections import defaultdict
+from collections import defaultdict, namedtuple
 from pathlib import Path
-from typing import NamedTuple
 
 TOP = Path(__file__).resolve().parent.parent
 SECONDS = 0.2  # between two readings
@@ -26,28 +26,14 @@ TICKS = os.sysconf("SC_CLK_TCK")
 KINDS = ["proof", "with tests", "must-fail", "wrong"]
 # By the folders of edits, those in which rt ci and tools/wrong_bodies.py try them.
 ROOMS = {"must-fail": "rt-edit-", "wrong": "wrong-bodies-"}
-
-
-class Process(NamedTuple):
-    """What /proc tells of a process: who started it, its beginning, and the processor seconds that it took so far."""
-
-    parent: int
-    start: int
-    took: float
+# What /proc tells of a process: who started it, its beginning, and the processor seconds that it took so far.
+Process = namedtuple("Process", "parent start took")
 
 
 def process_of(text):
     """The process of a text of /proc/N/stat. The command's name, in brackets, may have blanks."""
     fields = text[text.rindex(")") + 2 :].split()
     return Process(int(fields[1]), int(fields[19]), (int(fields[11]) + int(fields[12])) / TICKS)
-
-
-def of_proc(number, name):
-    """What a file of a process's folder in /proc holds, or nothing where it has ended."""
-    try:
-        return Path("/proc", str(number), name).read_bytes().decode("utf-8", "replace")
-    except OSError:
-        return ""
 
 
 def below(root, found):
@@ -66,8 +52,12 @@ def belongs(words, folder):
 
 def read(root, seen):
     """Reads the processes below one, and keeps of each its words, its folder and what it took."""
-    texts = {int(it): text for it in os.listdir("/proc") if it.isdigit() and (text := of_proc(it, "stat"))}
-    found = {number: process_of(text) for number, text in texts.items()}
+    def of_proc(number, name):
+        with contextlib.suppress(OSError):  # (it may have ended)
+            return Path("/proc", str(number), name).read_bytes().decode("utf-8", "replace")
+        return ""
+
+    found = {int(it): process_of(text) for it in os.listdir("/proc") if it.isdigit() and (text := of_proc(it, "stat"))}
     for number in below(root, found):
         key = number, found[number].start
         words, folder, _ = seen.get(key, ([], "", 0))
@@ -87,16 +77,15 @@ def rows_of(seen):
 
 def measured(words, keep=None):
     """Runs a command, and returns its status, and what each crate took of each kind."""
-    seen, kept = {}, time.monotonic()
+    seen, kept, is_over = {}, time.monotonic(), False
     with subprocess.Popen(words, cwd=TOP, stdin=subprocess.DEVNULL) as ran:
-        while ran.poll() is None:
+        while not is_over:
             read(ran.pid, seen)
-            if keep and time.monotonic() - kept > 10:
+            is_over = ran.poll() is not None
+            if keep and (is_over or time.monotonic() - kept > 10):
                 Path(keep).write_text(json.dumps(rows_of(seen)), "utf-8")
                 kept = time.monotonic()
-            time.sleep(SECONDS)
-    if keep:
-        Path(keep).write_text(json.dumps(rows_of(seen)), "utf-8")
+            time.sleep(0 if is_over else SECONDS)
     return ran.returncode, rows_of(seen)
 
 

@@ -11,7 +11,7 @@ import tomllib
 from pathlib import Path
 
 import case_files
-from grants_model import Entry, Grants
+from grants_model import Entry, Grants, right_has_ended
 from spaces_model import AddressSpaces, LateCopies
 
 CALLS = ["grant", "give", "take", "drop", "revoke", "narrow", "end", "split", "expire"]
@@ -91,37 +91,11 @@ class Model(AddressSpaces, LateCopies, Grants):
         words += ["until", until] if until else []
         return " ".join(map(str, words))
 
-    def tell_next(self):
-        ends = [entry.until for entry in self.table.values() if entry.right != "none" and entry.until]
-        return str(min(ends, default="none"))
-
-    def tell_due(self, p, now):
-        return next((f"{address:08x}" for address, entry in self.row(p).items() if entry.has_ended(now)), "none")
-
-    def tell_addresses(self, p):
-        return " ".join(f"{address:08x}" for address in self.row(p)) or "none"
-
-    def tell_byte(self, page):
-        return str(self.bytes[page])
-
-    def tell_frame(self, page):
-        return str(self.lies[page])
-
-    def tell_space(self, p):
-        return str(self.numbers.get(p, "none"))
-
     def tell_decide(self, p, kind, size, address):
-        """The page and the offset, or the rule and the code by which it is denied: the first case of docs/machine.md that holds."""
-        stores, entry = kind == "store", self.entry(p, address & ~0xfff)
-        if address % SIZES[size]:
-            return f"denied A {4 + stores}"
-        if address >= 2**31:
-            return f"denied K {4 + stores}"
-        if entry.right == "none":
-            return f"denied {entry.rule} {2 + stores}"
-        if stores and entry.right == "read":
-            return f"denied {entry.rule} 1"
-        return f"{entry.page} {address % 4096}"
+        """The page and the offset, or the rule and the code by which an access of a size is denied."""
+        stores = kind == "store"
+        why = ("A", 4 + stores) if address % SIZES[size] else self.why_denied(p, address, stores)
+        return "denied {} {}".format(*why) if why else f"{self.entry(p, address & ~0xfff).page} {address % 4096}"
 
     def tell_translation(self, p, address):
         slot = self.held(p, address)
@@ -131,6 +105,11 @@ class Model(AddressSpaces, LateCopies, Grants):
         return f"{'write' if may_write else 'read'} {frame}"
 
 
+QUESTIONS = {  # what is asked besides
+    "addresses": lambda it, p: " ".join(f"{address:08x}" for address in it.row(p)) or "none",
+    "byte": lambda it, page: it.bytes[page], "frame": lambda it, page: it.lies[page], "space": lambda it, p: it.numbers.get(p, "none"),
+    "next": lambda it: min((entry.until for entry in it.table.values() if entry.right != "none" and entry.until), default="none"),
+    "due": lambda it, p, now: next((f"{address:08x}" for address, entry in it.row(p).items() if right_has_ended(entry, now)), "none")}
 WORDS = {  # how the words of a line are read: a number in (d)ecimal or he(x)adecimal digits, (r)ight or other word, (g)ive, (b)y whom
     "start": "ddd", "grant": "dxdrgd", "give": "dxdxd", "take": "ddx", "drop": "dxb", "revoke": "dxd", "narrow": "dx",
     "end": "d", "split": "dx", "write": "dd", "enter": "dd", "fill": "dx", "entry": "dx", "addresses": "d", "byte": "d",
@@ -161,6 +140,8 @@ def answer(model, asked):
     values = [READ[kind](word) for kind, word in zip(WORDS[verb], words.split(), strict=True)]
     if verb == "start":
         return Model(*values), "ok"
+    if verb in QUESTIONS:
+        return model, str(QUESTIONS[verb](model, *values))
     answered = getattr(model, f"tell_{verb}", None) or getattr(model, verb)
     return model, str(answered(*values) or "ok")
 
@@ -180,18 +161,13 @@ def answered(text, tells_all):
     return "".join(f"{it}\n" for it in lines)
 
 
-def counted(name, text):
-    """What the program says of a file of which no line differs."""
-    lines = sum(bool(line.split("#")[0].strip()) for line in text.splitlines())
-    return [f"grants parts/grants/{name} {buffer}: {lines} as expected" for buffer in ("searched", "indexed")]
-
-
 def files():
-    told = []
+    told = []  # by the program of a file of which no line differs
     for name in REPLAYED:
         path = CRATE / "data" / "parts" / "grants" / name
         text = answered(path.read_text(), name == "refusals.txt")
-        told += counted(name, text)
+        lines = sum(bool(line.split("#")[0].strip()) for line in text.splitlines())
+        told += [f"grants parts/grants/{name} {buffer}: {lines} as expected" for buffer in ("searched", "indexed")]
         yield path, text
     yield CRATE / "stdout", case_files.with_lines(CRATE / "stdout", "grants parts/grants/", told)
 

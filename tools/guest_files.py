@@ -1,26 +1,19 @@
 """What a file gives a guest to read: pages with its bytes at an address, or keys that come in at a pace it can keep up with."""
 import re
-from dataclasses import dataclass
+from collections import namedtuple
 from pathlib import Path
 
-from elf_program import KERNEL, MAY_READ, PAGE, Page, Refused, check_spans
+from elf_program import KERNEL, MAY_READ, PAGE, Page, Refused, check_spans, refuse
 
 AT_ONCE = 64  # characters that come in at a boundary
 MOST_EVENTS, MOST_TICKS = 4096, 1_000_000_000  # of an input
 END_OF_INPUT = 4  # control D, by which examples/c/lib ends what it reads
-
-
-@dataclass(frozen=True)
-class Data:
-    """A file whose bytes lie in pages: its words on the command line, its name, and its pages by their addresses."""
-    given: str
-    name: str
-    pages: dict
+# A file whose bytes lie in pages: its words on the command line, its name, and its pages by their addresses.
+Data = namedtuple("Data", "given name pages")
 
 
 def bytes_of(path):
-    if not path.is_file():
-        raise Refused(f"{path}: no file of this name")
+    refuse(not path.is_file(), f"{path}: no file of this name")
     return path.read_bytes()
 
 
@@ -33,10 +26,8 @@ def data_of(given):
     if address % PAGE or address >= KERNEL:
         raise Refused(f"{given}: {address:08X} is no address of a page: a multiple of 1000 below 80000000, in hexadecimal digits")
     held = bytes_of(path)
-    if not held:
-        raise Refused(f"{given}: the file is empty")
-    if address + len(held) > KERNEL:
-        raise Refused(f"{given}: it reaches beyond 7FFFFFFF")
+    refuse(not held, f"{given}: the file is empty")
+    refuse(address + len(held) > KERNEL, f"{given}: it reaches beyond 7FFFFFFF")
     pages = {address + at: Page(bytearray(held[at:at + PAGE].ljust(PAGE, b"\0")), MAY_READ) for at in range(0, len(held), PAGE)}
     return Data(given, re.sub(r"[^A-Za-z0-9._-]", "_", path.name)[:40], pages)
 
@@ -60,8 +51,7 @@ def keys_text(path, line, pace, head):
     """An input in which the bytes of a file come in as keys of a line: 64 each so many ticks, and control D after them."""
     held = bytes_of(path)
     parts = [held[at:at + AT_ONCE] for at in range(0, len(held), AT_ONCE)]
-    if len(parts) >= MOST_EVENTS:
-        raise Refused(f"{path}: {len(held)} bytes: at most {AT_ONCE * (MOST_EVENTS - 1)} can come in")
+    refuse(len(parts) >= MOST_EVENTS, f"{path}: {len(held)} bytes: at most {AT_ONCE * (MOST_EVENTS - 1)} can come in")
     if (len(parts) + 1) * pace > MOST_TICKS:
         raise Refused(f"{path}: its end would come at {(len(parts) + 1) * pace}, and no time is above {MOST_TICKS}: a smaller --pace")
     keys = [f"{pace * k} key {line} {it.hex().upper()}" for k, it in enumerate(parts, 1)]

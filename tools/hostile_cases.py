@@ -23,6 +23,7 @@ SKIPPED = 256  # bytes of nothing before what shows
 BEFORE, AFTER = 24, 24  # drawn words before the end of the first page, and from the second on
 NAMED = ["code", "more", "data", "slide", "show", "saved", "witness"]
 CODE_PAGE, MORE_PAGE, DATA_PAGE, SLIDE, SHOW, SAVED, WITNESS = range(7)
+PLACES = ((CODE, CODE_PAGE), (MORE, MORE_PAGE), (DATA, DATA_PAGE))
 KEPT = [k for k in range(1, 32) if k not in (26, 27)]  # registers that a program may tell
 
 # What a process begins with: the addresses of its pages, and a copy of its data.
@@ -70,8 +71,8 @@ def words_of(instructions):
 
 
 def source(about, words, space=0):
-    lines = [f"# {about}"] + ([f".space {space}"] if space else [])
-    return "\n".join([*lines, *(f".word 0x{word:08X}" for word in words)]) + "\n"
+    head = f"# {about}\n" * bool(about) + f".space {space}\n" * bool(space)
+    return head + "".join(f".word 0x{word:08X}\n" for word in words)
 
 
 def page(words, space=0):
@@ -85,12 +86,8 @@ class Setting:
         self.name, self.about, self.count, self.rate = name, about, count, rate
         self.witness = count + 1
         self.start = CODE + 4096 - 4 * (BEFORE + len(PREAMBLE))
-        self.rules = []
-        for p in range(1, count + 1):
-            self.rules += [(p, CODE, "write", CODE_PAGE, True), (p, MORE, "write", MORE_PAGE, True), (p, DATA, "write", DATA_PAGE, True),
-                           (p, 0, "write", DATA_PAGE, True)]
-        self.rules += [(self.witness, 0x40_0000, "read", WITNESS, False), (self.witness, CODE, "read", CODE_PAGE, False),
-                       (self.witness, MORE, "read", MORE_PAGE, False), (self.witness, DATA, "read", DATA_PAGE, False)]
+        self.rules = [(p, at, "write", number, True) for p in range(1, count + 1) for at, number in (*PLACES, (0, DATA_PAGE))]
+        self.rules += [(self.witness, at, "read", number, False) for at, number in ((0x40_0000, WITNESS), *PLACES)]
         self.events = self.drawn_events()
 
     def drawn_events(self):
@@ -101,7 +98,7 @@ class Setting:
             side = rng.choice((CODE - 0x1000, MORE + 0x1000, SIDE, 0x5000))
             match rng.choices(("forget", "grant", "drop", "resume", "narrow"), (6, 2, 2, 3, 1))[0]:
                 case "forget":
-                    for at, number in ((CODE, CODE_PAGE), (MORE, MORE_PAGE), (DATA, DATA_PAGE)):
+                    for at, number in PLACES:
                         events += [(time, "drop", p, at), (time, "grant", p, at, number, "write", True)]
                 case "grant": events.append((time, "grant", p, side, SAVED, "read", False))
                 case "drop": events.append((time, "drop", p, side))
@@ -123,14 +120,11 @@ class Setting:
 
     def input(self):
         lines = []
-        for time, what, *words in self.events:
-            if what == "key":
-                lines.append(f"{time} key {words[0]} {words[1].hex()}")
-            elif what == "grant":
-                p, at, number, right, give = words
-                lines.append(f"{time} grant {p} {at:08X} {NAMED[number]} {right}{' give' if give else ''}")
-            else:
-                lines.append(" ".join([str(time), what, str(words[0]), *(f"{it:08X}" for it in words[1:])]))
+        for event in self.events:
+            match event:
+                case time, "key", line, held: lines.append(f"{time} key {line} {held.hex()}")
+                case time, "grant", p, at, number, right, give: lines.append(f"{time} grant {p} {at:08X} {NAMED[number]} {right}{' give' if give else ''}")
+                case time, what, p, *at: lines.append(f"{time} {what} {p}{''.join(f' {it:08X}' for it in at)}")
         return "\n".join(lines) + "\n"
 
     def begun(self, words):
@@ -140,8 +134,12 @@ class Setting:
         pages = [page(first, space), page(second), bytes(4096), bytes(4096), page(words_of(show()), SKIPPED), bytes(4096), page(words_of(witness()))]
         pages += [bytes(4096)] * (FRAMES - len(pages))
         processes = [(self.start, k) for k in range(self.count)] + [(0x40_0000, self.count)]
-        run = Hostile(processes, pages, len(NAMED), FRAMES, self.rules, self.rate, self.events)
-        return run
+        return Hostile(processes, pages, len(NAMED), FRAMES, self.rules, self.rate, self.events)
+
+
+SUMS = {  # sums with their operands: (t)arget, (r)egister, (i)mmediate, (s)hift and (h)alf
+    "addiu": "tri", "addu": "trr", "subu": "trr", "xor": "trr", "sll": "trs", "sra": "trs", "slti": "tri", "add": "trr", "ori": "trh", "lui": "th",
+    "mfhi": "t", "mflo": "t", "mult": "rr", "divu": "rr", "nor": "trr"}
 
 
 class Drawn:
@@ -204,14 +202,8 @@ class Drawn:
                 by = rng.choice((22, 23, 24, 25))
                 return words_of(loaded(by, word)) + [encode("sw", by, 4 * (to - BEFORE), 17)]
             case "alu":
-                return [rng.choice((
-                    encode("addiu", self.target(), self.register(), rng.randint(-40, 40)), encode("addu", self.target(), self.register(), self.register()),
-                    encode("subu", self.target(), self.register(), self.register()), encode("xor", self.target(), self.register(), self.register()),
-                    encode("sll", self.target(), self.register(), rng.randrange(32)), encode("sra", self.target(), self.register(), rng.randrange(32)),
-                    encode("slti", self.target(), self.register(), rng.randint(-40, 40)), encode("add", self.target(), self.register(), self.register()),
-                    encode("ori", self.target(), self.register(), rng.randrange(65536)), encode("lui", self.target(), rng.randrange(65536)),
-                    encode("mfhi", self.target()), encode("mflo", self.target()), encode("mult", self.register(), self.register()),
-                    encode("divu", self.register(), self.register()), encode("nor", self.target(), self.register(), self.register())))]
+                draw = {"t": self.target, "r": self.register, "i": lambda: rng.randint(-40, 40), "s": lambda: rng.randrange(32), "h": lambda: rng.randrange(65536)}
+                return [rng.choice([encode(name, *(draw[it]() for it in kinds)) for name, kinds in SUMS.items()])]
             case "call":
                 number = rng.choices((1, 2, 3, 4, 5, 6, 8, 7, 0, 9, 77), (6, 2, 6, 4, 4, 10, 4, 4, 1, 2, 2))[0]
                 address = rng.choice((18, 19, 16, 17))
@@ -230,11 +222,6 @@ class Drawn:
 KINDS = ("a changed word is done", "a slot is begun with", "a slot on the next page", "a store to a page with a copy", "an access by register 26")
 
 
-def is_whole(run):
-    """Whether a program does enough to be kept."""
-    return run.shares == 0 and sum(kind in run.seen for kind in KINDS) >= 3
-
-
 def drawn(setting):
     """The programs of a setting's cases with their runs."""
     rng, made = random.Random(f"programs of {setting.name}"), []
@@ -243,7 +230,7 @@ def drawn(setting):
         try:
             run = setting.begun(words)
             run.run(END)
-            if is_whole(run):
+            if run.shares == 0 and sum(kind in run.seen for kind in KINDS) >= 3:  # (it does enough to be kept)
                 run.run(N)
                 made.append((words, run))
         except NotQuiet:
@@ -264,9 +251,7 @@ SETTINGS = [
 def cases(setting):
     out = ["# Programs that were drawn. Written by tools/hostile_cases.py.\n"]
     for k, (words, run) in enumerate(drawn(setting), 1):
-        space = 4096 - 4 * (len(words) - AFTER)
-        text = "\n".join([f".space {space}", *(f".word 0x{word:08X}" for word in words)]) + "\n"
-        out.append(f"== program {k}\n{text}--\n{escaped(run.text())}")
+        out.append(f"== program {k}\n{source('', words, 4096 - 4 * (len(words) - AFTER))}--\n{escaped(run.text())}")
     return "".join(out)
 
 

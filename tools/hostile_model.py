@@ -47,6 +47,13 @@ def stored(name, value, b):
     return (value & (1 << 8 * size) - 1).to_bytes(size, "little"), 0
 
 
+SUMS = {  # what an instruction makes of two values, or of one and a number
+    "add": lambda a, b: signed(a) + signed(b), "sub": lambda a, b: signed(a) - signed(b), "addu": lambda a, b: a + b, "subu": lambda a, b: a - b,
+    "and": lambda a, b: a & b, "or": lambda a, b: a | b, "xor": lambda a, b: a ^ b, "nor": lambda a, b: ~(a | b),
+    "slt": lambda a, b: signed(a) < signed(b), "sltu": lambda a, b: a < b,
+    "sll": lambda a, n: a << n, "srl": lambda a, n: a >> n, "sra": lambda a, n: signed(a) >> n}
+
+
 class NotQuiet(Exception):
     """What an instruction reads depends on whether a touch came before."""
 
@@ -149,12 +156,7 @@ class Hostile(Run):
         """An instruction that accesses no memory and jumps nowhere: its new register and value, or none."""
         r = lambda k: self.operand(q, o[k])  # noqa: E731
         match name:
-            case "sll": return o[0], r(1) << o[2]
-            case "srl": return o[0], r(1) >> o[2]
-            case "sra": return o[0], signed(r(1)) >> o[2]
-            case "sllv": return o[0], r(1) << (r(2) & 31)
-            case "srlv": return o[0], r(1) >> (r(2) & 31)
-            case "srav": return o[0], signed(r(1)) >> (r(2) & 31)
+            case "lui": return o[0], o[1] << 16
             case "mfhi": return o[0], q.hi
             case "mflo": return o[0], q.lo
             case "mthi": q.hi = r(0)
@@ -166,28 +168,15 @@ class Hostile(Run):
                 a, b = (signed(r(0)), signed(r(1))) if name == "div" else (r(0), r(1))
                 quotient = abs(a) // abs(b) * (-1 if (a < 0) != (b < 0) else 1) if b else 0
                 q.hi, q.lo = a - quotient * b & MASK, quotient & MASK
-            case "add" | "sub" | "addi":
-                a = signed(r(1))
-                b = signed(o[2], 16) if name == "addi" else signed(r(2))
-                total = a - b if name == "sub" else a + b
-                if not -SIGN <= total < SIGN:
+            case "sllv" | "srlv" | "srav": return o[0], SUMS[name[:3]](r(1), r(2) & 31)
+            case "sll" | "srl" | "sra": return o[0], SUMS[name](r(1), o[2])
+            case "andi" | "ori" | "xori": return o[0], SUMS[name[:-1]](r(1), o[2])
+            case _:
+                b = signed(o[2], 16) & MASK if CODES[name][2][2] == I else r(2)
+                value = SUMS[name.replace("i", "")](r(1), b)  # (of `addi` that of `add`)
+                if name in ("add", "addi", "sub") and not -SIGN <= value < SIGN:
                     raise Denied("exec", None, "I", 12)
-                return o[0], total
-            case "addu": return o[0], r(1) + r(2)
-            case "subu": return o[0], r(1) - r(2)
-            case "and": return o[0], r(1) & r(2)
-            case "or": return o[0], r(1) | r(2)
-            case "xor": return o[0], r(1) ^ r(2)
-            case "nor": return o[0], ~(r(1) | r(2))
-            case "slt": return o[0], signed(r(1)) < signed(r(2))
-            case "sltu": return o[0], r(1) < r(2)
-            case "addiu": return o[0], r(1) + signed(o[2], 16)
-            case "slti": return o[0], signed(r(1)) < signed(o[2], 16)
-            case "sltiu": return o[0], r(1) < signed(o[2], 16) & MASK
-            case "andi": return o[0], r(1) & o[2]
-            case "ori": return o[0], r(1) | o[2]
-            case "xori": return o[0], r(1) ^ o[2]
-            case "lui": return o[0], o[1] << 16
+                return o[0], value
         return None
 
     def branch(self, q, pc, name, o):
@@ -198,12 +187,9 @@ class Hostile(Run):
             case "j" | "jal": to = on & 0xF0000000 | o[0] << 2
             case "jr": to = r(0)
             case "jalr": to = r(1)
-            case "beq": to = to if r(0) == r(1) else pc + 8
-            case "bne": to = to if r(0) != r(1) else pc + 8
-            case "blez": to = to if signed(r(0)) <= 0 else pc + 8
-            case "bgtz": to = to if signed(r(0)) > 0 else pc + 8
-            case "bltz" | "bltzal": to = to if signed(r(0)) < 0 else pc + 8
-            case "bgez" | "bgezal": to = to if signed(r(0)) >= 0 else pc + 8
+            case "beq" | "bne": to = to if (r(0) == r(1)) == (name == "beq") else pc + 8
+            case "blez" | "bgtz": to = to if (signed(r(0)) <= 0) == (name == "blez") else pc + 8
+            case "bltz" | "bltzal" | "bgez" | "bgezal": to = to if (signed(r(0)) < 0) == name.startswith("bltz") else pc + 8
             case _: return None
         if name in ("jal", "jalr", "bltzal", "bgezal"):
             q.set(o[0] if name == "jalr" else 31, pc + 8)
@@ -217,10 +203,8 @@ class Hostile(Run):
         if (self.number_of(page), at) in self.changed:
             self.sees("a changed word is done")
         name, *o = decode(int.from_bytes(page[at:at + 4], "little"))
-        if name == "raises":
-            raise Denied("exec", None, "I", o[0])
-        if name == "break":
-            raise Denied("exec", None, "I", 9)
+        if name in ("raises", "break"):
+            raise Denied("exec", None, "I", *o or [9])
         if name == "syscall":
             if in_slot:
                 raise Denied("exec", None, "I", 8)

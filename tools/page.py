@@ -15,42 +15,30 @@ import sys
 import tempfile
 from pathlib import Path
 
-from page import examples, files, kit, program, wasm
+from page import examples, files, program, wasm
 
 TOP = Path(__file__).resolve().parent.parent
 
 
-def commit(top):
-    """The commit of the repository, and whether files differ from it."""
-    said = subprocess.run(["git", "describe", "--always", "--dirty", "--abbrev=12"], cwd=top, capture_output=True, text=True)
-    return said.stdout.strip() or "unknown"
-
-
-def modules(installed, module, room, to):
-    """Makes the module and its twin, and returns the one that the one file carries."""
-    wasm.compiled(installed, module, room, to / "dsmon.wasm")
-    wasm_opt = shutil.which("wasm-opt")
-    (to / "dsmon32.wasm").unlink(missing_ok=True)
-    if not wasm_opt:
-        print("wasm-opt is not installed (package binaryen): dsmon32.wasm is left out, and the page runs only where memories of 64 bits do")
-        return to / "dsmon.wasm"
-    wasm.lowered(wasm_opt, to / "dsmon.wasm", to / "dsmon32.wasm")
-    return to / "dsmon32.wasm"
-
-
 def make(to, unproved, top=TOP):
     """Makes the whole page in a folder that is empty, or has a page that was made before."""
-    installed = kit.installed()
-    made = {"kit": (installed / "KIT-ID").read_text("utf-8").strip(), "commit": commit(top), "proved": "no" if unproved else "yes"}
+    installed = program.installed()
+    commit = subprocess.run(["git", "describe", "--always", "--dirty", "--abbrev=12"], cwd=top, capture_output=True, text=True).stdout.strip()
+    made = {"kit": (installed / "KIT-ID").read_text("utf-8").strip(), "commit": commit or "unknown", "proved": "no" if unproved else "yes"}
     with tempfile.TemporaryDirectory(prefix="dsmon-page-") as folder:
         room = Path(folder)
         if unproved:
-            module = program.tried(top, installed, room)
+            module = program.built(top / "crates/dsmon", installed, room, "try")
         else:
             module, made["dsmon.o"] = program.proved(top, installed, room)
         made["module.bc"] = files.sum_of(module)
         to.mkdir(parents=True, exist_ok=True)
-        carried = modules(installed, module, room, to)
+        wasm.compiled(installed, module, room, carried := to / "dsmon.wasm")
+    (to / "dsmon32.wasm").unlink(missing_ok=True)
+    if wasm_opt := shutil.which("wasm-opt"):
+        wasm.lowered(wasm_opt, carried, carried := to / "dsmon32.wasm")
+    else:
+        print("wasm-opt is not installed (package binaryen): dsmon32.wasm is left out, and the page runs only where memories of 64 bits do")
     files.copied(top / "page", to)
     (to / "examples.js").write_text(examples.script(top), "utf-8")
     (to / "made.js").write_text(files.made_script(made), "utf-8")

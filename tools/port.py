@@ -9,7 +9,6 @@ streams, good and damaged. docs/c.md has what this script said. The status is 1 
 """
 import argparse
 import contextlib
-import io
 import random
 import re
 import shutil
@@ -19,10 +18,12 @@ import sys
 import tempfile
 import time
 import zlib
-from dataclasses import dataclass
+from collections import namedtuple
+from itertools import zip_longest
 from pathlib import Path
 
 import elf_to_policy
+from rooms import said
 
 TOP = Path(__file__).resolve().parent.parent
 EXAMPLES = TOP / "examples" / "c"
@@ -35,9 +36,6 @@ DAMAGED = 60  # streams of each port that are damaged
 
 class Refused(Exception):
     """Why nothing can be compared."""
-
-
-# What the programs are given
 
 
 def item(kind, option, held):
@@ -92,19 +90,8 @@ def lz4_items(folder, drawn):
     yield from (item(PACKED, option, held) for held, option in [*blocks, *damaged(blocks, drawn)])
 
 
-# The ports
-
-
-@dataclass(frozen=True)
-class Port:
-    """A source package: the folder of its files and those that are compiled, the words for the compiler, pages of stack, and what the program is given."""
-    folder: str
-    files: list
-    words: list
-    stack: int
-    items: object
-
-
+# A source package: the folder of its files and those that are compiled, the words for the compiler, pages of stack, and what the program is given.
+Port = namedtuple("Port", "folder files words stack items")
 PORTS = {
     "zlib": Port(".", ["adler32.c", "crc32.c", "deflate.c", "inffast.c", "inflate.c", "inftrees.c", "trees.c", "zutil.c"], ["-DZ_SOLO"], 4, zlib_items),
     "lz4": Port("lib", ["lz4.c", "lz4hc.c"], ["-DLZ4_FAST_DEC_LOOP=0"], 30, lz4_items),
@@ -115,8 +102,8 @@ def ran(words, **how):
     """What a command said on standard output; its last lines where it failed."""
     done = subprocess.run([str(it) for it in words], stdin=subprocess.DEVNULL, capture_output=True, timeout=600, **how)
     if done.returncode:
-        said = (done.stdout + done.stderr).decode(errors="replace").strip().splitlines()
-        raise Refused("\n".join([f"`{' '.join(map(str, words[:3]))} ..` ended with status {done.returncode}:", *said[-5:]]))
+        last = (done.stdout + done.stderr).decode(errors="replace").strip().splitlines()[-5:]
+        raise Refused("\n".join([f"`{' '.join(map(str, words[:3]))} ..` ended with status {done.returncode}:", *last]))
     return done.stdout
 
 
@@ -149,30 +136,16 @@ def fetched(package, room):
     return next(it for it in (room / "source").glob(f"{package}-*") if it.is_dir())
 
 
-def version_of(folder):
-    """The version of a source package, as its changelog says."""
-    found = re.match(r"\S+ \((\S+)\)", (folder / "debian" / "changelog").read_text("utf-8"))
-    return found[1] if found else "of no version"
-
-
-# Bytes of a file at a fixed address before `main` begins, as `--data` puts them into pages of a policy.
-PAGES = """
-#define _GNU_SOURCE
-#include <fcntl.h>
-#include <sys/mman.h>
-__attribute__((constructor)) static void place(void) {
-    mmap((void *)0x%08X, %d, PROT_READ, MAP_PRIVATE | MAP_FIXED_NOREPLACE, open("%s", O_RDONLY), 0);
-}
-"""
+def of_pages(path):
+    """What the compiler is given so that the bytes of a file lie at the address before `main` begins."""
+    return [f"-DADDRESS={ADDRESS}", f"-DSIZE={path.stat().st_size}", f'-DHELD="{path}"', TOP / "tools" / "pages.c"]
 
 
 def natively(name, port, where, items, room):
     """What the program puts that is compiled for this machine."""
-    pages, program = room / "pages.c", room / "native"
-    pages.write_text(PAGES % (ADDRESS, items.stat().st_size, items), "utf-8")
-    sources = [EXAMPLES / "port" / f"with_{name}.c", pages, *(where / it for it in port.files)]
-    ran(["gcc", "-std=c11", "-O2", "-fwrapv", *port.words, "-w", f"-I{where}", "-no-pie", "-o", program, *sources])
-    return ran([program])
+    sources = [EXAMPLES / "port" / f"with_{name}.c", *(where / it for it in port.files)]
+    ran(["gcc", "-std=c11", "-O2", "-fwrapv", *port.words, "-w", f"-I{where}", "-no-pie", "-o", room / "native", *of_pages(items), *sources])
+    return ran([room / "native"])
 
 
 def by_dsmon(name, port, where, items, room, dsmon):
@@ -180,10 +153,10 @@ def by_dsmon(name, port, where, items, room, dsmon):
     program, files = f"with_{name}", [f"with_{name}.c", *port.files]
     ran(["make", "-C", EXAMPLES, f"BUILD={room}", f"PROGRAMS={program}", f"FILES_{program}={' '.join(files)}", f"HEAP_{program}=100",
          f"VPATH=port:{where}", f"MORE={' '.join(port.words)} -w -I{where}"])
-    with contextlib.redirect_stdout(io.StringIO()), contextlib.redirect_stderr(io.StringIO()) as why:
-        status = elf_to_policy.main(["--stack", str(port.stack), "--data", f"{items}@{ADDRESS:08X}", "--into", str(room / "policy"), str(room / f"{program}.elf")])
+    words = ["--stack", str(port.stack), "--data", f"{items}@{ADDRESS:08X}", "--into", str(room / "policy"), str(room / f"{program}.elf")]
+    status, _, why = said(elf_to_policy.main, words)
     if status:
-        raise Refused(why.getvalue().strip())
+        raise Refused(why.strip())
     return parts(ran([dsmon, "run", f"{program}.toml", f"{program}.input", MOST_TICKS], cwd=room / "policy"))
 
 
@@ -196,38 +169,30 @@ def parts(text):
 
 def first_difference(mine, theirs):
     """The first line in which two texts differ, or None."""
-    mine, theirs = mine.splitlines(), theirs.splitlines()
-    for at in range(max(len(mine), len(theirs))):
-        one, other = (it[at].decode(errors="replace") if at < len(it) else "nothing" for it in (mine, theirs))
+    for at, pair in enumerate(zip_longest(mine.splitlines(), theirs.splitlines(), fillvalue=b"nothing"), 1):
+        one, other = (it.decode(errors="replace") for it in pair)
         if one != other:
-            return f"line {at + 1}: {one[:80]!r}, natively {other[:80]!r}"
+            return f"line {at}: {one[:80]!r}, natively {other[:80]!r}"
     return None
-
-
-def is_stream_of(stream, option, held):
-    """Whether Python's zlib unpacks a stream to these bytes."""
-    try:
-        return zlib.decompress(stream, wbits=option) == held
-    except zlib.error:
-        return False
 
 
 def read_again(console, items):
     """How many of the streams that were put are read by Python's zlib as the texts that they were made of, and how many there are."""
     texts = [(option, held) for kind, option, held in items if kind == TEXT]
     streams = [bytes.fromhex(it.decode()) for it in re.findall(rb"(?<=\n)(?:[0-9a-f]{2})+(?:\n[0-9a-f]{2,64})*(?=\n)", console)]
-    return sum(is_stream_of(stream, *text) for stream, text in zip(streams, texts)), len(texts)
+    good = 0
+    for stream, (option, held) in zip(streams, texts):
+        with contextlib.suppress(zlib.error):
+            good += zlib.decompress(stream, wbits=option) == held
+    return good, len(texts)
 
 
 def items_in(held):
     """The items of a file, with their kinds, options and bytes."""
     at = 0
-    while True:
-        kind, option, size = struct.unpack_from("<IiI", held, at)
-        if kind == END:
-            return
-        yield kind, option, held[at + 12:at + 12 + size]
-        at += 12 + -(-size // 4) * 4
+    while (it := struct.unpack_from("<IiI", held, at))[0] != END:
+        yield *it[:2], held[at + 12:at + 12 + it[2]]
+        at += 12 + -(-it[2] // 4) * 4
 
 
 def compare(name, folder, wanted, room):
@@ -237,8 +202,9 @@ def compare(name, folder, wanted, room):
     items.write_bytes(b"".join([*port.items(where, random.Random(wanted.seed)), item(END, 0, b"")]))
     began = time.monotonic()
     mine, log, ticks = by_dsmon(name, port, where, items, room, wanted.dsmon)
+    version = re.match(r"\S+ \((\S+)\)", (folder / "debian" / "changelog").read_text("utf-8"))
     took, theirs = time.monotonic() - began, natively(name, port, where, items, room)
-    print(f"{name} {version_of(folder)}: {len(port.files)} files as they stand; {items.stat().st_size:,} bytes of texts and streams; {ticks:,} ticks, {took:.0f} s with make")
+    print(f"{name} {version[1] if version else 'of no version'}: {len(port.files)} files as they stand; {items.stat().st_size:,} bytes of texts and streams; {ticks:,} ticks, {took:.0f} s with make")
     told = [f"the log has {log[0]}"] if log else []
     told += [it for it in [first_difference(mine, theirs)] if it]
     if name == "zlib":

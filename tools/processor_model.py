@@ -4,8 +4,7 @@ It is written after docs/machine.md ("The refill handler") and docs/architecture
 over tools/hostile_model.py and tools/spaces_model.py, and shares nothing with the program. The model of a run says what a unit asks for: its fetches, its load
 or its store, in their order. Here that unit is begun again and again until nothing of it is missing.
 """
-from collections import Counter
-from typing import NamedTuple
+from collections import Counter, namedtuple
 
 from hostile_model import Hostile, NotQuiet
 from spaces_model import AddressSpaces, LateCopies
@@ -13,24 +12,10 @@ from spaces_model import AddressSpaces, LateCopies
 SLOTS, WIRED = 64, 8
 FIRST_TABLE_PAGE, FIRST_FRAME, EMPTY_TABLE = 0xC0000, 402, 1
 
-
-class Ask(NamedTuple):
-    """An access of a unit: its kind, its address and the one that it has after a touch, and whether it goes by the buffer."""
-
-    kind: str
-    address: int
-    after_touch: int
-    is_mapped: bool
-
-
-class Translation(NamedTuple):
-    """An entry of the buffer: a page of an address space, its frame, and whether that may be read and written."""
-
-    page: int
-    number: int
-    frame: int
-    is_valid: bool
-    is_dirty: bool
+# An access of a unit: its kind, its address and the one that it has after a touch, and whether it goes by the buffer.
+Ask = namedtuple("Ask", "kind address after_touch is_mapped")
+# An entry of the buffer: a page of an address space, its frame, and whether that may be read and written.
+Translation = namedtuple("Translation", "page number frame is_valid is_dirty")
 
 
 class Buffer:
@@ -44,13 +29,6 @@ class Buffer:
 
     def tick(self):
         self.random = SLOTS - 1 if self.random == WIRED else self.random - 1
-
-    def put_in_random(self, translation):
-        self.slots[self.random] = translation
-
-    def put_in_turn(self, translation):
-        self.slots[self.next_wired] = translation
-        self.next_wired = (self.next_wired + 1) % WIRED
 
     def forget(self, page, number):
         slot = self.find(page, number)
@@ -96,15 +74,12 @@ class Processor(AddressSpaces, LateCopies, Hostile):
                 if region not in places:
                     places[places.index(None)] = region
 
-    def table_frame(self, p, region):
-        places = self.places[p]
-        return 2 + 4 * (p - 1) + places.index(region) if region in places else EMPTY_TABLE
-
     def translation(self, p, page):
         """What the page tables of a process have for a page, or what there is for a page of them."""
         number = self.numbers[p]
         if page >= FIRST_TABLE_PAGE:
-            return Translation(page, number, self.table_frame(p, page - FIRST_TABLE_PAGE), True, False)
+            places, region = self.places[p], page - FIRST_TABLE_PAGE
+            return Translation(page, number, 2 + 4 * (p - 1) + places.index(region) if region in places else EMPTY_TABLE, True, False)
         entry = self.entry(p, page << 12)
         if entry.right == "none":
             return Translation(page, number, 0, False, False)
@@ -140,13 +115,13 @@ class Processor(AddressSpaces, LateCopies, Hostile):
         if self.asks is not None:
             self.go_through(p)
         if self.processes[p].state == "Parked":
-            self.serve("end")
+            self.counts("service", "end")
         self.enter()
         return ticks
 
     def call(self, p, q):
         self.go_through(p)
-        self.serve("end")
+        self.counts("service", "end")
         super().call(p, q)
         self.place_tables()
 
@@ -168,7 +143,7 @@ class Processor(AddressSpaces, LateCopies, Hostile):
                 self.refill(p, ask.address >> 12)
                 return False
             if ask.kind == "store" and not self.buffer.slots[slot].is_dirty and self.entry(p, ask.address - ask.address % 4096).right == "write":
-                self.serve("copy")
+                self.counts("service", "copy")
                 self.split(p, ask.address - ask.address % 4096)
                 return False
         return True
@@ -179,20 +154,18 @@ class Processor(AddressSpaces, LateCopies, Hostile):
         self.instructions(3)
         table = FIRST_TABLE_PAGE + (page >> 10)
         if self.buffer.find(table, self.numbers[p]) is None:
-            self.serve("double")
-            self.buffer.put_in_turn(self.translation(p, table))
+            self.counts("service", "double")
+            self.buffer.slots[self.buffer.next_wired] = self.translation(p, table)
+            self.buffer.next_wired = (self.buffer.next_wired + 1) % WIRED
             return
         self.instructions(3)
-        self.buffer.put_in_random(self.translation(p, page))
+        self.buffer.slots[self.buffer.random] = self.translation(p, page)
         self.instructions(3)
 
     def instructions(self, n):
         for _ in range(n):
             self.counts("instruction")
             self.buffer.tick()
-
-    def serve(self, kind):
-        self.counts("service", kind)
 
     def counts(self, *kinds):
         """Each of these happened once more."""

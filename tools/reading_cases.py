@@ -19,22 +19,19 @@ def without_escapes(text):
     return ESCAPE.sub(lambda it: bytes([int(it[1], 16)]) if it[1] else b"\r" if it[2] else b"\\" if it[3] else b"", text)
 
 
-def of_policy(folder, text):
-    """The refusal of a policy. A good one may name a source that is not there."""
-    lacking = [it for it in sources(text) if not (folder / it).is_file()]
+def answer(table, text):
+    """The refusal of an input, or of a policy: a good one may name a source that is not there."""
+    if table.file == "input":
+        pages = tomllib.loads((table.folder / table.words[1]).read_text())["page"]
+        return input_refusal(text, [it["name"] for it in pages]) or "ok"
+    lacking = [it for it in sources(text) if not (table.folder / it).is_file()]
     return policy_refusal(text) or (f"26 Unreadable {lacking[0]}" if lacking else "ok")
 
 
-def of_input(policy, text):
-    return input_refusal(text, [it["name"] for it in tomllib.loads(policy.read_text())["page"]]) or "ok"
-
-
 def files():
-    for it in case_files.tables():
-        if it.line.startswith("reading "):
-            def answer(text):
-                return of_input(it.folder / it.words[1], text) if it.file == "input" else of_policy(it.folder, text)
-            yield it.cases, CASE.sub(lambda found: b"%s%s-- %s\n" % (found[1], found[2], answer(without_escapes(found[2])).encode()), it.cases.read_bytes())
+    for it in (it for it in case_files.tables() if it.line.startswith("reading ")):
+        yield it.cases, CASE.sub(
+            lambda found: b"%s%s-- %s\n" % (found[1], found[2], answer(it, without_escapes(found[2])).encode()), it.cases.read_bytes())
 
 
 if __name__ == "__main__":

@@ -5,21 +5,12 @@ What TOML is comes from Python's own reader, `tomllib`, with integers of 64 bits
 """
 import re
 import tomllib
-from typing import NamedTuple
+from collections import namedtuple
 
 MOST_TICKS, MOST_EVENTS, MOST_ENTRIES, MOST_REGIONS = 1_000_000_000, 4096, 256, 4
+# Why a policy is refused: its refusal, the name of the cause, and the array and the item that it is about, if it is of one.
+Fault = namedtuple("Fault", "refusal cause array item", defaults=(None, None))
 
-
-class Fault(NamedTuple):
-    """Why a policy is refused: its refusal, the name of the cause, and the array and the item that it is about, if it is of one."""
-
-    refusal: str
-    cause: str
-    array: str = None
-    item: int = None
-
-
-# Values.
 
 def are_of_64_bits(value):
     if isinstance(value, (dict, list)):
@@ -40,8 +31,6 @@ def is_list(root, key, low, high):
     rows = root.get(key, [])
     return isinstance(rows, list) and low <= len(rows) <= high
 
-
-# A policy.
 
 ROOT = {  # the root keys in their order, each with the cause where all of its value is wrong
     "version": ("BAD_VERSION", lambda root: is_integer(root.get("version"), 1, 2)),
@@ -67,7 +56,8 @@ def policy_fault(text):
         if not is_good(root):
             return Fault(f"10 Limit {key}", cause)
         for at, row in enumerate(root.get(key, []) if key in ITEMS else []):
-            if found := ITEMS[key](root, at, row) if isinstance(row, dict) else f"{key.upper()}_NOT_TABLE":
+            wrong = (cause for cause, is_good in ITEMS[key] if not is_good(root, at, row))
+            if found := next(wrong, None) if isinstance(row, dict) else f"{key.upper()}_NOT_TABLE":
                 return Fault(f"9 BadRule {at + 1}" if key == "rule" else f"10 Limit {key}", found, key, at + 1)
     return None
 
@@ -84,62 +74,37 @@ def sources(text):
     return [it["source"] for it in root.get("page", []) if "source" in it]
 
 
-# The cause for which an item is refused, where those before it are good, or None.
-
-def process_cause(root, at, row):
-    if not row.keys() <= {"start", "line"}:
-        return "PROCESS_OTHER_KEY"
-    if not is_integer(row.get("start"), 0, 2**32 - 1):
-        return "BAD_START"
-    return None if is_integer(row.get("line"), 0, 3) else "PROCESS_BAD_LINE"
+def own(root, at, row):
+    """The addresses of the rules before one that are of its process."""
+    return [it["address"] for it in root["rule"][:at] if it["process"] == row["process"]]
 
 
-def page_cause(root, at, row):
-    if not row.keys() <= {"name", "source", "part"}:
-        return "PAGE_OTHER_KEY"
-    if not is_text(row.get("name"), "[a-z0-9]{1,16}"):
-        return "BAD_NAME"
-    if row.keys() != {"name"}:
-        if not is_text(row.get("source"), "[A-Za-z0-9._/-]{1,64}"):
-            return "BAD_SOURCE"
-        if not is_integer(row.get("part"), 0, 15):
-            return "BAD_PART"
-    return "SAME_NAME" if row["name"] in [it["name"] for it in root["page"][:at]] else None
+ITEMS = {  # of each array the causes for which an item is refused in their order, each with what is true of one that is good
+    "process": [
+        ("PROCESS_OTHER_KEY", lambda root, at, row: row.keys() <= {"start", "line"}),
+        ("BAD_START", lambda root, at, row: is_integer(row.get("start"), 0, 2**32 - 1)),
+        ("PROCESS_BAD_LINE", lambda root, at, row: is_integer(row.get("line"), 0, 3))],
+    "page": [
+        ("PAGE_OTHER_KEY", lambda root, at, row: row.keys() <= {"name", "source", "part"}),
+        ("BAD_NAME", lambda root, at, row: is_text(row.get("name"), "[a-z0-9]{1,16}")),
+        ("BAD_SOURCE", lambda root, at, row: row.keys() == {"name"} or is_text(row.get("source"), "[A-Za-z0-9._/-]{1,64}")),
+        ("BAD_PART", lambda root, at, row: row.keys() == {"name"} or is_integer(row.get("part"), 0, 15)),
+        ("SAME_NAME", lambda root, at, row: row["name"] not in [it["name"] for it in root["page"][:at]])],
+    "rule": [
+        ("RULE_OTHER_KEY", lambda root, at, row: row.keys() <= {"process", "address", "right", "page", "give", "until"}),
+        ("UNTIL_OF_VERSION_1", lambda root, at, row: root["version"] != 1 or "until" not in row),
+        ("RULE_BAD_PROCESS", lambda root, at, row: is_integer(row.get("process"), 1, len(root["process"]))),
+        ("RULE_BAD_ADDRESS", lambda root, at, row: is_integer(row.get("address"), 0, 2**31 - 1) and row["address"] % 4096 == 0),
+        ("RULE_BAD_RIGHT", lambda root, at, row: row.get("right") in ("none", "read", "write")),
+        ("PAGE_OF_NONE", lambda root, at, row: row["right"] != "none" or not row.keys() & {"page", "give"}),
+        ("UNTIL_OF_NONE", lambda root, at, row: row["right"] != "none" or "until" not in row),
+        ("BAD_PAGE", lambda root, at, row: row["right"] == "none" or row.get("page") in [it["name"] for it in root.get("page", [])]),
+        ("RULE_BAD_GIVE", lambda root, at, row: type(row.get("give", False)) is bool),
+        ("BAD_UNTIL", lambda root, at, row: is_integer(row.get("until", 1), 1, MOST_TICKS)),
+        ("SAME_PLACE", lambda root, at, row: row["address"] not in own(root, at, row)),
+        ("TOO_MANY_RULES", lambda root, at, row: len(own(root, at, row)) < MOST_ENTRIES),
+        ("FIFTH_REGION", lambda root, at, row: len({it >> 22 for it in [*own(root, at, row), row["address"]]}) <= MOST_REGIONS)]}
 
-
-def rule_cause(root, at, row):
-    if not row.keys() <= {"process", "address", "right", "page", "give", "until"}:
-        return "RULE_OTHER_KEY"
-    if root["version"] == 1 and "until" in row:
-        return "UNTIL_OF_VERSION_1"
-    if not is_integer(row.get("process"), 1, len(root["process"])):
-        return "RULE_BAD_PROCESS"
-    address = row.get("address")
-    if not is_integer(address, 0, 2**31 - 1) or address % 4096:
-        return "RULE_BAD_ADDRESS"
-    if row.get("right") not in ("none", "read", "write"):
-        return "RULE_BAD_RIGHT"
-    if row["right"] == "none":
-        if row.keys() & {"page", "give", "until"}:
-            return "PAGE_OF_NONE" if row.keys() & {"page", "give"} else "UNTIL_OF_NONE"
-    elif not isinstance(row.get("page"), str) or row["page"] not in [it["name"] for it in root.get("page", [])]:
-        return "BAD_PAGE"
-    elif type(row.get("give", False)) is not bool:
-        return "RULE_BAD_GIVE"
-    elif not is_integer(row.get("until", 1), 1, MOST_TICKS):
-        return "BAD_UNTIL"
-    own = [it["address"] for it in root["rule"][:at] if it["process"] == row["process"]]
-    if address in own:
-        return "SAME_PLACE"
-    if len(own) >= MOST_ENTRIES:
-        return "TOO_MANY_RULES"
-    return "FIFTH_REGION" if len({it >> 22 for it in [*own, address]}) > MOST_REGIONS else None
-
-
-ITEMS = {"process": process_cause, "page": page_cause, "rule": rule_cause}
-
-
-# An input.
 
 WORDS = {  # the causes of an event's words after its name, in their order
     "key": ("BadLine", "BadBytes"), "grant": ("BadProcess", "BadAddress", "UnknownPage", "BadRight", "BadGive"),

@@ -8,7 +8,7 @@ that were written by hand.
 """
 import re
 import sys
-from typing import NamedTuple
+from collections import namedtuple
 
 import case_files
 from reading_cases import without_escapes
@@ -40,15 +40,8 @@ WANTED = {
     "a register": "A register is `$` and a number or a name: `$8` or `$t0`.", "a number": "A number is decimal, with or without `-`, or hexadecimal after `0x`.",
     "a label": "A label is a name that a line has before its colon.", "an address": "An address is a number, and a register in parentheses: `0($t0)`.",
     "a number or a label": "A number is decimal, with or without `-`, or hexadecimal after `0x`."}
-
-
-class Told(NamedTuple):
-    """What is told of a line: the line of its fault, what it quotes, and how it is mended. A byte is quoted where it first stands, a text where it stands once."""
-
-    first: str
-    quote: bytes = b""
-    mending: tuple[str, ...] = ()
-    is_byte: bool = False
+# What is told of a line: the line of its fault, what it quotes, and how it is mended. A byte is quoted where it first stands, a text where it stands once.
+Told = namedtuple("Told", "first quote mending is_byte", defaults=(b"", (), False))
 
 
 def quoted(text):
@@ -120,7 +113,8 @@ def cut_off(line):
     if word == b"jalr" and found == 1:
         kinds = kinds[1:]
     if found != len(kinds):
-        return one_number(found) if word == b".word" else operands(1 if word == b"jalr" else len(kinds), len(kinds), found)
+        of_word = Told(f"The statement wants 1 operands, and has {found}.", b"", ("Write each number in a line of its own: `.word 1`, and `.word 2` below it.",))
+        return of_word if word == b".word" else operands(1 if word == b"jalr" else len(kinds), len(kinds), found)
     for number, (kind, operand) in enumerate(zip(kinds, rest.split(b",")), 1):
         text = operand.strip()
         if not re.fullmatch(FORMS[kind], text):
@@ -129,23 +123,13 @@ def cut_off(line):
     return None
 
 
-def one_number(found):
-    """What is told where a directive has another number of operands."""
-    return Told(f"The statement wants 1 operands, and has {found}.", b"", ("Write each number in a line of its own: `.word 1`, and `.word 2` below it.",))
-
-
-def caret_place(line, told):
-    """Where what is quoted stands in the line before its comment, if it has a place."""
-    said = line.split(b"#")[0]
-    place = said.find(told.quote) if 1 <= len(told.quote) <= 40 else -1
-    return None if place < 0 or not told.is_byte and said.find(told.quote, place + 1) >= 0 else place
-
-
 def listed(line, told):
     """All lines that `dsmon list` tells of a line that is a source by itself, or none where it is good."""
     if told is None:
         return None
-    place = caret_place(line, told)
+    said = line.split(b"#")[0]  # what is quoted has its place before the comment, where it has one
+    place = said.find(told.quote) if 1 <= len(told.quote) <= 40 else -1
+    place = None if place < 0 or not told.is_byte and said.find(told.quote, place + 1) >= 0 else place
     return [f"3 Syntax one.s 1: {told.first}".encode(), *shown(line, 1, None if place is None else line[:place]), *map(str.encode, told.mending)]
 
 
@@ -154,44 +138,21 @@ def escaped(text):
     return "".join(chr(c) if 32 <= c <= 126 and c != 92 else f"\\x{c:02X}" for c in text)
 
 
-# Policies and inputs.
-
-
-def end_of(text):
-    """The line and the column at the end of a text."""
-    last = text.split(b"\n")[-1]
-    return text.count(b"\n") + 1, len(last) + 1
-
-
 def where_it_breaks_off(text):
-    """Where the library says that a good document is none which is cut off here: at its end, or at a value that is no value yet, as `0x`."""
-    line, column = end_of(text)
+    """The line and the column where the library says that a good document is none which is cut off here: at its end, or at a value that is no value yet, as `0x`."""
     cut = re.search(rb" (0x|t|tr|tru)$", text)
-    return line, column - len(cut[1]) if cut else column
+    return text.count(b"\n") + 1, len(text.split(b"\n")[-1]) + 1 - (len(cut[1]) if cut else 0)
 
 
-def in_a_key(c):
-    """Where the library says that a text is no document which has this byte before `frames = 16` in line 3: a table's name or a text may begin."""
-    return (3, 9) if c == ord("[") else (3, 13) if c in b"\"'" else (3, 1)
-
-
-def in_a_number(c):
-    """The same, for the last digit of `address = 0x00410000` in line 20: a byte that may stand in a number makes the whole of it none."""
-    return (20, 11) if c in LETTERS + UPPER + DIGITS + b"+-.:_" else (20, 20)
-
-
-def as_a_number(c):
-    """The same, for the digit of `line = 0` in line 6: a text ends with its line, and an array or a table goes on in the next."""
-    return (6, 9) if c in b" \t\"'" else (7, 3) if c == ord("[") else (7, 1) if c == ord("{") else (6, 8)
-
-
-def in_a_text(c):
-    """The same, for the last letter of `right = "write"` in line 21: a backslash takes the quotation mark into the text, which the line ends."""
-    return (21, 15) if c == ord('"') else (21, 16) if c == ord("\\") else (21, 14)
-
-
-BYTES = {  # where a policy is no document that has another byte at a place, by the end of a case's name
-    "before a root key": in_a_key, "for the number of a line": as_a_number, "for the last digit of an address": in_a_number, "for the last letter of a right": in_a_text}
+BYTES = {  # where the library says that a policy is no document that has another byte at a place, by the end of a case's name
+    # before `frames = 16` in line 3: a table's name or a text may begin
+    "before a root key": lambda c: (3, 9) if c == ord("[") else (3, 13) if c in b"\"'" else (3, 1),
+    # for the 0 in line 6: a text ends with its line, and an array or a table goes on in the next
+    "for the number of a line": lambda c: (6, 9) if c in b" \t\"'" else (7, 3) if c == ord("[") else (7, 1) if c == ord("{") else (6, 8),
+    # in `address = 0x00410000` in line 20: a byte that may stand in a number makes the whole of it none
+    "for the last digit of an address": lambda c: (20, 11) if c in LETTERS + UPPER + DIGITS + b"+-.:_" else (20, 20),
+    # in `right = "write"` in line 21: a backslash takes the quotation mark into the text, which the line ends
+    "for the last letter of a right": lambda c: (21, 15) if c == ord('"') else (21, 16) if c == ord("\\") else (21, 14)}
 SOURCES = {"alone": alone, "after a statement": directly_after, "after a statement and a blank": after_a_blank}
 
 

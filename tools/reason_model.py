@@ -4,6 +4,7 @@ and not from the code.
 Which text is refused, and for what cause, tools/reading_model.py says. The words of a cause stand in crates/ds_policy_reasons/src, each by its name.
 """
 import re
+from itertools import takewhile
 from pathlib import Path
 
 from reading_model import input_fault, policy_fault
@@ -22,11 +23,9 @@ KEYS = {
 
 def words(name):
     """The lines that tell of a cause."""
-    for file in ("input_texts", "policy_texts", "rule_texts"):
-        found = re.search(rf'\b{name}: &str = "\\\n(.*?)";', (SOURCES / f"{file}.rt").read_text(), re.S)
-        if found:
-            return found[1].replace('\\"', '"').replace("\\\\", "\\").splitlines()
-    raise KeyError(name)
+    texts = "".join((SOURCES / f"{file}.rt").read_text() for file in ("input_texts", "policy_texts", "rule_texts"))
+    found = re.search(rf'\b{name}: &str = "\\\n(.*?)";', texts, re.S)
+    return found[1].replace('\\"', '"').replace("\\\\", "\\").splitlines()
 
 
 def shown(text, line, front):
@@ -36,9 +35,6 @@ def shown(text, line, front):
         blanks = [chr(9) if it == "\t" else " " for it in front.decode("utf-8", "surrogateescape") if not "\udc80" <= it <= "\udcbf"]
         rows.append(b"    " + "".join(blanks).encode() + b"^")
     return rows
-
-
-# An input.
 
 
 def input_told(text, pages):
@@ -52,9 +48,6 @@ def input_told(text, pages):
     return [f"20 InputFault {number}".encode(), *shown(text, number, None if at is None else line[:at]), *map(str.encode, words(name))]
 
 
-# A policy.
-
-
 def policy_told(text, toml_place):
     """All that is told of a policy's bytes, as lines, or None where it is good. Where they are no document the library tells the place."""
     fault = policy_fault(text)
@@ -62,10 +55,7 @@ def policy_told(text, toml_place):
         return None
     refusal, cause, array, number = fault
     which = f"in {array} {number} of the policy" if array in ("process", "page") else None
-    place = toml_place if cause == "NOT_TOML" else reason_place(text, array, number, cause)
-    if cause == "OTHER_KEY":
-        found = odd_key(text)
-        place = found and found[1:]
+    place = toml_place if cause == "NOT_TOML" else (odd_key(text) or (None,))[1:] if cause == "OTHER_KEY" else reason_place(text, array, number, cause)
     rows = [refusal.encode()]
     if place:
         line, column = place
@@ -96,11 +86,9 @@ def odd_key(text):
 
 def is_meant(name, key):
     """Whether two words differ by case alone, by one letter, or by an `es` at the end of the first."""
-    if name.lower() == key.lower() or name == key + "es":
-        return True
     cut = {it[:at] + it[at + 1 :] for it in (name, key) for at in range(len(it))}
-    swapped = len(name) == len(key) and sum(a != b for a, b in zip(name, key)) == 1
-    return swapped or len(name) != len(key) and (name in cut or key in cut)
+    by_a_letter = sum(a != b for a, b in zip(name, key)) == 1 if len(name) == len(key) else name in cut or key in cut
+    return name.lower() == key.lower() or name == key + "es" or by_a_letter
 
 
 def reads_as_source(text):
@@ -110,10 +98,8 @@ def reads_as_source(text):
     return re.fullmatch(rb"[A-Za-z_][A-Za-z0-9_]{0,31}:|([A-Za-z_][A-Za-z0-9_]{0,31}:\s*)?(nop|syscall|addiu \$\d,\s*\$\d,\s*\d+)", first) is not None
 
 
-# Where the key or the item stands that a reason is about.
-
-
 def reason_place(text, array, number, cause):
+    """Where the key or the item stands that a reason is about."""
     lines = text.decode().split("\n")
     if cause.endswith("NOT_TABLE"):
         return key_place(lines, 0, array)
@@ -129,11 +115,8 @@ def reason_place(text, array, number, cause):
 
 def key_place(lines, first, key):
     """Where a key stands at the beginning of a line, before any line that begins with a bracket."""
-    for number, line in enumerate(lines[first:], first + 1):
-        if re.match(r"[ \t]*\[", line):
-            return None
-        found = re.match(rf"([ \t]*){key}[ \t=]", line)
-        if found:
+    for number, line in enumerate(takewhile(lambda it: not re.match(r"[ \t]*\[", it), lines[first:]), first + 1):
+        if found := re.match(rf"([ \t]*){key}[ \t=]", line):
             return number, len(found[1]) + 1
     return None
 

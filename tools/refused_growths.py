@@ -1,26 +1,23 @@
 #!/usr/bin/env python3
 """Refuses each growth of memory of proved programs, alone and with all after it, and looks at what they answer.
 
-    tools/refused_growths.py                                 takes the programs that `rt ci` built in crates/*/out
-    tools/refused_growths.py --dsmon FILE --tests FILE..     takes others
-
-A run of dsmon for which a growth is refused before its first turn writes nothing. One that is cut short writes the text of some number
-of whole turns. Both end with status 3 and the line of want of memory. Where a growth alone is refused, the program may ask for less
-instead, or do without, and then the run is whole. Where all from one on are refused, it may be whole only if it is so with each of them
-refused alone. The tests whose names begin with `for_want_of_memory` or `after_want_of_memory` pass whichever
-growths are refused. Which growth is refused says tools/refuse.c, a library that the toolchain's compiler makes. Where a program was not
-built, this is said, nothing is tried there, and the status is 0. It is 1 where an answer is wrong.
+It takes the programs that `rt ci` built in crates/*/out. A run of dsmon for which a growth is refused before its first turn writes nothing. One that is
+cut short writes the text of some number of whole turns. Both end with status 3 and the line of want of memory. Where a growth alone is refused, the
+program may ask for less instead, or do without, and then the run is whole. Where all from one on are refused, it may be whole only if it is so with each
+of them refused alone. The tests whose names begin with `for_want_of_memory` or `after_want_of_memory` pass whichever growths are refused. Which growth is
+refused says tools/refuse.c, a library that the toolchain's compiler makes. Where a program was not built, this is said, nothing is tried there, and the
+status is 0. It is 1 where an answer is wrong.
 """
-import argparse
 import os
 import subprocess
 import sys
 import tempfile
+from collections import namedtuple
 from concurrent.futures import ThreadPoolExecutor
 from pathlib import Path
-from typing import NamedTuple
 
-from page.kit import installed
+import case_files
+from page.program import installed
 
 TOP = Path(__file__).resolve().parent.parent
 DATA = TOP / "crates" / "rows" / "data"
@@ -32,16 +29,8 @@ BYTES = 257  # of the guest: one more than a console makes room for at once
 TICKS = 2 * BYTES + 6  # of its whole run, which is denied at time 515
 KNOWN = [*range(4), *range(2 * BYTES - 6, TICKS + 1)]  # the times near the growths of its run
 
-POLICY = """\
-version = 1
-frames = 16
-process = [{ start = 0x00400000, line = 0 }, { start = 0x00400000, line = 1 }]
-page = [{ name = "code", source = "guest.s", part = 0 }]
-rule = [
-    { process = 1, address = 0x00400000, right = "read", page = "code" },
-    { process = 2, address = 0x00400000, right = "read", page = "code" },
-]
-"""
+CODE = [(p, 0x40_0000, "read", "code", False) for p in (1, 2)]
+POLICY = case_files.policy_text("The guest.", 16, 0, [(0x40_0000, 0), (0x40_0000, 1)], [("code", "guest.s", 0)], CODE)
 # Puts so many bytes that its console grows twice, and is denied a store, so that the log grows before the other process
 # begins: turns in which nobody is ready ask for no room.
 GUEST = "addiu $a0, $zero, 46\n" + BYTES * "addiu $v0, $zero, 1\nsyscall\n" + "sw $zero, 0($zero)\n"
@@ -51,12 +40,7 @@ class Wrong(Exception):
     """What is not as it has to be."""
 
 
-class Run(NamedTuple):
-    """How a run ended, and what it wrote."""
-
-    status: int
-    out: bytes
-    err: bytes
+Run = namedtuple("Run", "status out err")  # how a run ended, and what it wrote
 
 
 class Program:
@@ -66,9 +50,7 @@ class Program:
         self.library, self.path = library, str(Path(path).resolve())
 
     def run(self, words, cwd=None, refuse=None, growths=None):
-        env = {"LD_PRELOAD": self.library}
-        env |= {"REFUSE": refuse} if refuse else {}
-        env |= {"GROWTHS": growths} if growths else {}
+        env = {"LD_PRELOAD": self.library, **({"REFUSE": refuse} if refuse else {}), **({"GROWTHS": growths} if growths else {})}
         done = subprocess.run([self.path, *words], cwd=cwd, env=env, stdin=subprocess.DEVNULL, capture_output=True, timeout=SECONDS)
         return Run(done.returncode, done.stdout, done.stderr)
 
@@ -79,18 +61,8 @@ class Program:
             return run, int(file.read() or 0)
 
 
-class Row(NamedTuple):
-    """A run of dsmon: its folder, its policy, its ticks, the times whose texts are known, and whether it is cut in each way."""
-
-    name: str
-    folder: str
-    policy: str
-    ticks: int
-    times: tuple
-    has_each_cut: bool = False
-
-    def words(self, ticks):
-        return ["run", self.policy, NOTHING, str(ticks)]
+# A run of dsmon: its folder, its policy, its ticks, the times whose texts are known, and whether it is cut in each way.
+Row = namedtuple("Row", "name folder policy ticks times has_each_cut", defaults=(False,))
 
 
 def rows(folder):
@@ -131,19 +103,16 @@ def check_cuts(texts, first):
 
 def tried(program, row, lanes):
     """Tries each growth of a row both ways: how many there are, how many of them in the run, and how often the run was whole all the same."""
-    whole, growths = program.counted(row.words(row.ticks), row.folder)
-    before = program.counted(row.words(0), row.folder)[1]
-    known = [it.out for it in lanes.map(lambda n: program.run(row.words(n), row.folder), row.times)]
+    words = lambda ticks: ["run", row.policy, NOTHING, str(ticks)]  # noqa: E731
+    (whole, growths), (_, before) = (program.counted(words(it), row.folder) for it in (row.ticks, 0))
+    known = [it.out for it in lanes.map(lambda n: program.run(words(n), row.folder), row.times)]
     if whole.status or whole.out != known[-1] or not 0 < before < growths:
-        counts = f"{before} growths before the run and {growths} in all"
-        raise Wrong(f"{row.name}: without a refusal it ends with {whole.status}, and has {counts}")
-    spared, cuts = set(), set()  # the growths that a run can do without, and the places where it was cut
-    wholes = 0
+        raise Wrong(f"{row.name}: without a refusal it ends with {whole.status}, and has {before} growths before the run and {growths} in all")
+    spared, cuts, wholes = set(), set(), 0  # the growths that a run can do without, and the places where it was cut
     for on in (False, True):
         marks = [f"{growth}{'..' if on else ''}" for growth in range(1, growths + 1)]
-        runs = list(lanes.map(lambda mark: program.run(row.words(row.ticks), row.folder, mark), marks))
         places = []
-        for growth, run in enumerate(runs, 1):
+        for growth, run in enumerate(lanes.map(lambda mark: program.run(words(row.ticks), row.folder, mark), marks), 1):
             try:
                 place = judged(run, growth, not on or spared.issuperset(range(growth, growths + 1)), before, whole.out, known)
             except Wrong as wrong:
@@ -162,8 +131,7 @@ def tried(program, row, lanes):
 
 def tests_of(program):
     """The names of a program's tests about want of memory."""
-    lines = program.run(["--list"]).out.decode().splitlines()
-    names = [it.partition(": ")[0] for it in lines]
+    names = [it.partition(": ")[0] for it in program.run(["--list"]).out.decode().splitlines()]
     return [it for it in names if it.split("::")[-1].startswith(ABOUT_MEMORY)]
 
 
@@ -185,24 +153,19 @@ def compiled(folder):
     return library
 
 
-def main(words):
-    parser = argparse.ArgumentParser(description=__doc__, formatter_class=argparse.RawDescriptionHelpFormatter)
-    parser.add_argument("--dsmon", default=str(TOP / "crates/dsmon/out/dsmon"))
-    parser.add_argument("--tests", nargs="*", default=[str(TOP / "crates/ds_tests/out/ds_tests_tests")])
-    given = parser.parse_args(words)
+def main(dsmon=TOP / "crates/dsmon/out/dsmon", tests=TOP / "crates/ds_tests/out/ds_tests_tests"):
     with tempfile.TemporaryDirectory(prefix="refused-growths-") as folder, ThreadPoolExecutor(len(os.sched_getaffinity(0))) as lanes:
         library = compiled(folder)
-        for path in (given.dsmon, *given.tests):
+        for path in (dsmon, tests):
             if not Path(path).is_file():
                 print(f"refused_growths: {path} was not built, and was not tried")
         try:
-            for row in rows(folder) if Path(given.dsmon).is_file() else []:
-                growths, inside, wholes = tried(Program(library, given.dsmon), row, lanes)
+            for row in rows(folder) if Path(dsmon).is_file() else []:
+                growths, inside, wholes = tried(Program(library, dsmon), row, lanes)
                 print(f"{row.name}: each of {growths} growths refused, {inside} of them in the run; asked otherwise {wholes} times")
-            for path in filter(os.path.isfile, given.tests):
-                program = Program(library, path)
-                for name in tests_of(program):
-                    print(f"{name}: passes whichever of {passed(program, name, lanes)} growths is refused")
+            program = Program(library, tests)
+            for name in tests_of(program) if Path(tests).is_file() else []:
+                print(f"{name}: passes whichever of {passed(program, name, lanes)} growths is refused")
         except Wrong as wrong:
             print(f"refused_growths: wrong: {wrong}")
             return 1
@@ -210,4 +173,4 @@ def main(words):
 
 
 if __name__ == "__main__":
-    sys.exit(main(sys.argv[1:]))
+    sys.exit(main())

@@ -17,22 +17,13 @@ import tempfile
 from pathlib import Path
 
 from release import Refused
-from release.archive import File, archive
-from release.contents import contents, documents, made, page
+from release.contents import File, archive, contents, documents, page
 from release.licences import kit_here, licences, linked
 from release.manual import manual, section
 from release.tree import GATE, PROOFS, cloned, commit_of, passed
 
 TOP = Path(__file__).resolve().parent.parent
 OF_THE_SYSTEM = re.compile(r"linux-vdso|libc\.so|ld-linux")  # what the program may ask the system for: the C library and its loader
-
-
-def version_of(changes):
-    """The version that CHANGELOG.md begins with."""
-    found = re.search(r"^## (\S+)", changes, re.MULTILINE)
-    if not found or not re.fullmatch(r"\d+\.\d+\.\d+", found[1]):
-        raise Refused("CHANGELOG.md begins with no version, such as `## 1.0.0`")
-    return found[1]
 
 
 def said_by(program, *words):
@@ -50,13 +41,6 @@ def helps_of(program):
     return {"": whole, **{it: said_by(program, it, "--help") for it in names if it != "help"}}
 
 
-def check_version(program, version):
-    """Refuses a program that calls itself by another version than this one."""
-    told = said_by(program, "--version").split()[-1]
-    if told != version:
-        raise Refused(f"the program calls itself {told}, and CHANGELOG.md begins with {version}")
-
-
 def libraries(program):
     """What the program asks the system for, as the loader tells."""
     done = subprocess.run(["ldd", program], stdin=subprocess.DEVNULL, capture_output=True, text=True)
@@ -65,60 +49,48 @@ def libraries(program):
     return [it.split()[0] for it in done.stdout.splitlines() if it.strip()]
 
 
-def needed(program):
-    """The C library that the program needs, which is all that it may need."""
-    more = [it for it in libraries(program) if not OF_THE_SYSTEM.search(it)]
-    if more:
-        raise Refused(f"the program needs {more[0]}, and the C library alone is promised")
-    found = max((tuple(map(int, it.split(b"."))) for it in re.findall(rb"GLIBC_(\d+\.\d+)", program.read_bytes())), default=())
-    return "the C library" + (f", glibc {'.'.join(map(str, found))} or later" if found else "")
-
-
 def release(tree, commit, version, gate, of_page):
     """The files of the archive: those of the tree, the program with its manual page and its licences, and how all was made."""
     program, (kit, line) = tree / "crates/dsmon/out/dsmon", kit_here()
     if not program.is_file():
         raise Refused("the gate left no program in crates/dsmon/out")
-    check_version(program, version)
+    told = said_by(program, "--version").split()[-1]
+    if told != version:
+        raise Refused(f"the program calls itself {told}, and CHANGELOG.md begins with {version}")
+    if more := [it for it in libraries(program) if not OF_THE_SYSTEM.search(it)]:
+        raise Refused(f"the program needs {more[0]}, and the C library alone is promised")
+    glibc = max((tuple(map(int, it.split(b"."))) for it in re.findall(rb"GLIBC_(\d+\.\d+)", program.read_bytes())), default=())
+    needed = "the C library" + (f", glibc {'.'.join(map(str, glibc))} or later" if glibc else "")
     own, of_kit = linked(tree, kit, "dsmon")
     texts = documents(tree)
     files = contents(tree, texts)
     files |= {f"page/{name}": File(held) for name, held in of_page.items()}
     files |= {f"licences/{name}": File(held) for name, held in licences(kit, line, of_kit).items()}
     files |= {"dsmon": File(program.read_bytes(), runs=True), "dsmon.1": File(manual(helps_of(program), texts, version, commit.day).encode())}
-    head = [f"dsmon {version} for x86-64 Linux; it needs {needed(program)}", f"commit {commit.name} of {commit.day}", f"kit {line}", *gate,
+    head = [f"dsmon {version} for x86-64 Linux; it needs {needed}", f"commit {commit.name} of {commit.day}", f"kit {line}", *gate,
             f"proved: the crates {', '.join(own)}; docs/theorems.md says what, and docs/believe.md on which definitions it rests",
             f"with the kit's crates {', '.join(of_kit)}", "each file has its sum below: sha256sum -c MADE"]
-    return {**files, "MADE": File(made(head, files).encode())}
-
-
-def first_commands(readme):
-    """The commands of README.md's first look, which a user of a release types first."""
-    return re.search(r"(?:^    .*\n)+", section({"README.md": readme}, "README.md", "A first look"), re.MULTILINE)[0].splitlines()
+    sums = (f"{hashlib.sha256(it.held).hexdigest()}  {path}\n" for path, it in sorted(files.items()))  # as `sha256sum -c` reads it
+    return {**files, "MADE": File("".join([*(f"# {it}\n" for it in head), *sums]).encode())}
 
 
 def try_out(held, name, readme):
     """Refuses an archive that doesn't run the first commands of README.md, unpacked into an empty folder, with the system's own programs alone."""
+    look = re.search(r"(?:^    .*\n)+", section({"README.md": readme}, "README.md", "A first look"), re.MULTILINE)[0].splitlines()
     with tempfile.TemporaryDirectory(prefix="dsmon-release-") as room:
         Path(room, f"{name}.tar.gz").write_bytes(held)
-        for line in [f"tar xzf {name}.tar.gz", f"cd {name} && sha256sum --quiet -c MADE", *(f"cd {name} && {it.strip()}" for it in first_commands(readme))]:
+        for line in [f"tar xzf {name}.tar.gz", f"cd {name} && sha256sum --quiet -c MADE", *(f"cd {name} && {it.strip()}" for it in look)]:
             done = subprocess.run(["env", "-i", "PATH=/usr/bin:/bin", "sh", "-c", line], cwd=room, stdin=subprocess.DEVNULL, capture_output=True, text=True, errors="replace")
             if done.returncode:
                 raise Refused(f"in the archive `{line}` has status {done.returncode}: {(done.stdout + done.stderr).strip()}")
 
 
-def write(to, name, held):
-    """Writes the archive, and says its sum. A release with other bytes stays as it is."""
-    path = to / f"{name}.tar.gz"
-    if path.exists() and path.read_bytes() != held:
-        raise Refused(f"{path} is there already, with other bytes")
-    path.write_bytes(held)
-    print(f"{hashlib.sha256(held).hexdigest()}  {path}")
-
-
 def make(to, folder, candidate, top):
     """Makes a release of the commit that is checked out at the top."""
-    commit, version = commit_of(top), version_of((top / "CHANGELOG.md").read_text("utf-8"))
+    commit, found = commit_of(top), re.search(r"^## (\S+)", (top / "CHANGELOG.md").read_text("utf-8"), re.MULTILINE)
+    version = found[1] if found else ""
+    if not re.fullmatch(r"\d+\.\d+\.\d+", version):
+        raise Refused("CHANGELOG.md begins with no version, such as `## 1.0.0`")
     of_page = page(folder, commit) if folder else {}
     command, log = PROOFS if candidate else GATE, to / f"gate-{commit.name[:12]}.log"
     with tempfile.TemporaryDirectory(prefix="dsmon-release-") as room:
@@ -129,7 +101,11 @@ def make(to, folder, candidate, top):
         name = f"dsmon-{version}{'-candidate' if candidate else ''}-x86_64-linux"
         held = archive(name, release(tree, commit, version, gate, of_page), commit.seconds)
         try_out(held, name, (tree / "README.md").read_text("utf-8"))
-        write(to, name, held)
+        path = to / f"{name}.tar.gz"
+        if path.exists() and path.read_bytes() != held:  # (a release with other bytes stays as it is)
+            raise Refused(f"{path} is there already, with other bytes")
+        path.write_bytes(held)
+        print(f"{hashlib.sha256(held).hexdigest()}  {path}")
 
 
 def main(words, top=TOP):

@@ -1,7 +1,8 @@
-"""What tests of scripts share: a folder with files, what a call says, and a script whose name a package has too."""
+"""What tests of scripts share, and scripts that call others: a folder with files, small repositories, what a call says, and a script whose name a package has too."""
 import contextlib
 import importlib.util
 import io
+import re
 import tempfile
 import unittest
 from pathlib import Path
@@ -15,6 +16,12 @@ def placed(folder, files):
         place = Path(folder, path)
         place.parent.mkdir(parents=True, exist_ok=True)
         place.write_bytes(held.encode() if isinstance(held, str) else held)
+
+
+def toy(name, folder=""):
+    """The files of tools/toys/NAME below a folder of theirs, by their paths from there. There each stands below a line `== PATH`."""
+    parts = re.split(r"^== (.*)\n", (TOP / "tools" / "toys" / name).read_text("utf-8"), flags=re.M)
+    return {path.removeprefix(folder): text for path, text in zip(parts[1::2], parts[2::2]) if path.startswith(folder)}
 
 
 def said(call, *given, **named):

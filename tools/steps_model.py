@@ -9,7 +9,7 @@ import sys
 import case_files
 from hostile_model import MASK, signed
 from processor_model import Processor
-from trace_model import asked, begun
+from trace_model import asked, begun, number
 
 
 class Stepped(Processor):
@@ -51,17 +51,13 @@ class Stepped(Processor):
         return "".join(f"{it}\n" for it in [*self.lines, *over]).encode() + self.text()
 
 
-def stepped(read, words):
-    (_, policy, given, n), flags = asked(words)
-    run = begun(read, policy, given, Stepped, int(flags.get("random", ["63"])[0]))
-    run.run(int(n))
-    return run.told()
-
-
 def files():
     """The texts of all lines of the index. Either buffer takes the same steps."""
     for _, folder, text, _, *words in case_files.index("steps/index"):
-        yield case_files.DATA / folder / text, stepped(case_files.files_in(case_files.DATA / folder), words)
+        (_, policy, given, n), flags = asked(words)
+        run = begun(case_files.files_in(case_files.DATA / folder), policy, given, Stepped, number(flags, "random", 63))
+        run.run(int(n))
+        yield case_files.DATA / folder / text, run.told()
 
 
 if __name__ == "__main__":

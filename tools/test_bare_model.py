@@ -1,4 +1,3 @@
-#!/usr/bin/env python3
 """Tests of tools/bare_model.py: values that were worked out by hand."""
 import unittest
 
@@ -22,7 +21,7 @@ def after(text, turns=1, **begun):
     """The machine after so many instructions of a source."""
     it = machine(text, **begun)
     for done in range(turns):
-        it.turn(done, True)
+        it.turn(done)
     return it
 
 
@@ -63,7 +62,7 @@ class Machines(unittest.TestCase):
         it = machine(system={12: 2, 14: 0}, slots={9: Entry(0, 0x40_0300)})  # page 0 is the image, in any address space
         it.bus.memory[0x40_0000:0x40_0004] = image("rfe")
         it.pc, it.next = 0, 4
-        it.turn(0, True)
+        it.turn(0)
         self.assertEqual((it.pc, it.system[13]), (GENERAL, 11 << 2))
 
     def test_random_goes_from_8_to_63(self):
@@ -88,7 +87,7 @@ class Machines(unittest.TestCase):
             it = machine(text)
             for place, word in stores:
                 it.bus.memory[place:place + 4] = word.to_bytes(4, "little")
-            self.assertEqual(it.turn(0, True)[1], ending, (text, stores))
+            self.assertEqual(it.turn(0)[1], ending, (text, stores))
 
     def test_a_part_of_a_word_is_stored(self):
         for name, at, word in [("swl", 1, 0x0000_1234), ("swr", 1, 0x3456_7800), ("sb", 2, 0x0078_0000), ("sh", 2, 0x5678_0000)]:
@@ -121,7 +120,3 @@ class Lines(unittest.TestCase):
         self.assertEqual(found[-9:], [
             "instructions 2", "refills 1", "writes of the buffer 1", "interrupts of the lines 0", "interrupts of the clock 0", "characters in 0", "characters out 0",
             "exception 2 TLBL: 1", "memory 00400000: 42000006 8C091000"])
-
-
-if __name__ == "__main__":
-    unittest.main()

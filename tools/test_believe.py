@@ -1,214 +1,15 @@
-#!/usr/bin/env python3
 """Tests of tools/believe.py, over a toy crate: what a clause rests on, and what is told of a name, a page or a document that is wrong."""
-import unittest
 from pathlib import Path
 
 from believe.page import Asked, named_by, page
 from believe.repository import Repository
-from rooms import InARoom, placed, said, script
+from rooms import InARoom, placed, said, script, toy
 
 COMMAND = script("believe")
-FILES = {
-    "crates/toy/src/run.rt": """\
-//! A run.
-ghost use Rattle.std.specs.Prelude.{◌≡◌, IfOk, ℕ};
-ghost use Rattle.toy.specs.Top.{Holds};
-ghost use Rattle.toy.specs.Inner.Top.{unneeded as other};
-
-use crate::fault::Fault;
-use crate::place::Place;
-
-/// Runs. It asks for nothing.
-pub fn run<W: Write>(place: &Place<4>, n: u8, out: &mut W) -> Result<u8, Fault>
-    ensures ok { IfOk result (λ shown. Holds shown
-        place.now) }
-    ensures err { n ≡ n }
-{
-    Ok(n)
-}
-""",
-    "crates/toy/src/fault.rt": """\
-//! Faults.
-
-/// Why nothing ran.
-#[derive(Clone, Copy)]
-pub enum Fault {
-    /// It was late.
-    Late,
-    Of(Cause),
-}
-
-pub struct Cause {
-    pub line: u8, // from 1
-}
-
-pub enum Mood {
-    Glad,
-    Sad,
-}
-
-pub struct Unneeded {
-    pub mood: Mood,
-}
-""",
-    "crates/toy/src/place.rt": """\
-//! Places.
-use crate::fault::Unneeded;
-
-/// A place.
-pub struct Place<const N: usize> {
-    hidden: Unneeded,
-}
-
-impl<const N: usize> Model for Place<N> {
-    ghost use Rattle.toy.specs.Low.{Spot};
-
-    ghost Value = { Spot };
-
-    ghost view = { λ p. p.hidden };
-}
-""",
-    "crates/toy/src/words.rt": """\
-//! Words.
-
-macro_rules! table {
-    ($pass:ident) => {
-        $pass! { "one { two" }
-    };
-}
-
-macro_rules! firsts {
-    ($first:literal) => { [$first] };
-}
-
-macro_rules! unneeded {
-    () => {};
-}
-
-/// The words.
-static WORDS: [&str; 1] = table!(firsts);
-""",
-    "crates/toy/src/laws.rt": """\
-//! Laws.
-ghost use Rattle.std.specs.Prelude.{◌≡◌};
-ghost use Rattle.toy.specs.Low.{North};
-ghost use Rattle.toy.specs.Inner.Low.{count};
-
-/// Nothing is counted of this way.
-pub fn north_counts_nothing()
-    ensures { count North ≡ 0 }
-{}
-
-/// It does something, and is no law.
-pub fn walk()
-    ensures { with_all ≡ with_all }
-{
-    step()
-}
-""",
-    "crates/toy/specs/Top.antt": """\
--- What a run shows. It is small.
-use Rattle.std.specs.Prelude.{◌≡◌, ◌×◌, ℕ, List, map, Some, None, Option}
-use Rattle.toy.specs.Low.{Spot, Way as Road, North, turned}
-use Rattle.toy.specs.Low as low
-use Rattle.toy.specs.Inner.Low.{with_all, unneeded as spare}
-use Rattle.toy.specs.declared.fault.Mood.TheVariants as mood
-use Rattle.toy.specs.declared.words.TheConstants.{WORDS}
-
--- it is shown
-pub record Holds (shown : ℕ) (spot : Spot) : Type 0 where
-  pub way : Road
-  -- as it is turned
-  pub so : turned way ≡ low.straight spot.parts.first
-  pub words : map (λ unneeded. unneeded.now) WORDS ≡ []
-  pub glad : mood.Glad ≡ mood.Glad
-""",
-    "crates/toy/specs/Inner/Top.antt": """\
--- What no promise needs.
-use Rattle.std.specs.Prelude.{ℕ}
-use Rattle.toy.specs.Inner.Low.{unneeded as spare}
-
--- a definition that nothing needs
-abbrev pub unneeded : ℕ
-unneeded = spare
-""",
-    "crates/toy/specs/Low.antt": """\
--- What is below.
-use Rattle.std.specs.Prelude.{◌+◌, ℕ, Option, Some, None}
-use Rattle.toy.specs.Inner.Low.{hidden}
-
--- a place and its parts
-pub record Spot : Type 0 where
-  pub parts : Parts
-
--- of a place
-pub record Parts : Type 0 where
-  pub first : ℕ
-
--- a way
-pub data Way : Type 0 where
-  North : Way
-  South : (steps : ℕ) → Way
-
--- a way, turned
-abbrev pub turned : Way → ℕ
-turned North = 0
-turned (South hidden) = hidden + 1
-
--- a number as it is
-abbrev pub straight : ℕ → ℕ
-straight n =
-    let unneeded = n in
-    let named : Option ℕ = Some unneeded in
-    shown named
-  where
-    shown : Option ℕ → ℕ
-    shown None = n
-    shown (Some hidden) = hidden
-""",
-    "crates/toy/specs/Inner/Low.antt": """\
--- What no promise needs.
-use Rattle.std.specs.Prelude.{ℕ}
-use Rattle.toy.specs.Low.{Way, North, South}
-
--- what a name means that is bound below
-abbrev pub hidden : ℕ
-hidden = 1
-
--- nothing needs this
-abbrev pub unneeded : ℕ
-unneeded = hidden
-
-abbrev pub count : Way → ℕ
-count North = 0
-count (South n) = n
-
--- the same for all
-abbrev pub with_all : (ℕ → ℕ) → ℕ
-with_all f = f 1
-""",
-    "crates/toy/specs/Rows.antt": """\
--- Worked rows.
-use Rattle.std.specs.Prelude.{◌≡◌, refl}
-use Rattle.toy.specs.Low.{North, turned}
-
-pub north_is_nothing : turned North ≡ 0
-north_is_nothing = refl
-""",
-    "docs/theorems.md": """\
-# What is proved
-
-    run ensures ok { IfOk result (λ shown. Holds shown
-        place.now) }
-
-It asks for nothing:
-
-    run ensures err { n ≡ n }
-""",
-}
+FILES = toy("believe")
 RUN, FAULT = "crates/toy/src/run.rt", "crates/toy/src/fault.rt"
 HIGH, LOW, INNER, THEOREMS, GLOSSARY = "crates/toy/specs/Top.antt", "crates/toy/specs/Low.antt", "crates/toy/specs/Inner/Low.antt", "docs/theorems.md", "docs/glossary.md"
-LISTS = [Asked(RUN, "run", ["ok"], "What is shown.", ["nothing"]), Asked(RUN, "run", ["err"], "The rest.", [])]
+LISTS = [Asked("What is shown.", ["nothing"], RUN, "run", ["ok"]), Asked("The rest.", [], RUN, "run", ["err"])]
 NEEDED = {"Holds", "Spot", "Parts", "Way", "turned", "straight", "Mood", "WORDS", "table", "firsts", "Place", "Fault", "Cause"}
 COUNT = "\nabbrev pub count : Way → ℕ\ncount North = 0\ncount (South n) = n\n"
 SHOWN_BELOW = "    // what is shown\n    run ensures ok { IfOk result (λ shown. Holds shown\n        place.now) }\n    // the rest\n    run ensures err { n ≡ n }\n"
@@ -224,9 +25,9 @@ TOLD = [
     ([(LOW, "turned North = 0", "turned North = nothing")], [f"{LOW}:20: `nothing` leads nowhere"]),
     ([(FAULT, "    Glad,\n", "")], [f"{HIGH}:15: crates/toy/src declares no `fault.Mood.TheVariants.Glad`"]),
     ([(FAULT, "    Of(Cause),", "    Of(Reason),")], [f"{FAULT}:8: `Reason` leads nowhere"]),
-    ([(RUN, "    ensures err { n ≡ n }\n", "    ensures err { n ≡ n }\n    ensures more { n ≡ n }\n")], [f"{RUN}: clause `more` of `run` is in no list of tools/believe/page.py"]),
+    ([(RUN, "    ensures err { n ≡ n }\n", "    ensures err { n ≡ n }\n    ensures more { n ≡ n }\n")], [f"{RUN}: clause `more` of `run` is in no list of tools/believe/lists.toml"]),
     ([(RUN, "    ensures err { n ≡ n }\n", "    ensures error { n ≡ n }\n")],
-     [f"{RUN}: `run` has no clause `err`", f"{RUN}: clause `error` of `run` is in no list of tools/believe/page.py"]),
+     [f"{RUN}: `run` has no clause `err`", f"{RUN}: clause `error` of `run` is in no list of tools/believe/lists.toml"]),
     ([(LOW, "-- a way, turned", "-- no list has it\nabbrev pub odd : ℕ\nodd = 1\n\n-- a way, turned")], [f"{LOW}:19: `odd` is in no list, and stands neither below Inner nor below Rows"]),
     ([(LOW, "shown (Some hidden) = hidden", "shown (Some other) = hidden")], [f"{INNER}:6: `hidden` is in a list, and stands below Inner or Rows"]),
     (TWO_TURNED, [f"`turned` stands for several things, and not in docs/glossary.md, Homonyms: {LOW}:19, crates/toy/specs/Other.antt:5"]),
@@ -310,7 +111,7 @@ class Believe(InARoom):
 
     def test_laws_are_functions_that_do_nothing(self):
         self.put([(INNER, COUNT, ""), (LOW, "-- a way, turned", COUNT[1:] + "\n-- a way, turned"), ("crates/toy/src/laws.rt", "specs.Inner.Low", "specs.Low")])
-        text, told = page(Repository(self.room), [*LISTS, Asked("", "", [], "What is true.", [], ("toy",))])
+        text, told = page(Repository(self.room), [*LISTS, Asked("What is true.", [], laws=["toy"])])
         self.assertEqual([], told)
         self.assertIn("| 3. The laws of `toy` | one law | 1 | 3 | 0 | 0 | 27 |", text)
 
@@ -334,7 +135,3 @@ class Believe(InARoom):
         self.assertEqual(0, status)
         self.assertIn(f"{LOW}:6: Spot, 3 lines\n", told)
         self.assertEqual((1, f"{RUN}: has no function `walk`\n"), self.main("--of", RUN, "walk"))
-
-
-if __name__ == "__main__":
-    unittest.main()

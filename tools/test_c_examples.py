@@ -1,10 +1,9 @@
-#!/usr/bin/env python3
 """Tests of tools/c_examples.py, with compilers that are none."""
 import unittest
 from unittest import mock
 
 import c_examples
-from c_examples import EXAMPLES, check, different, written
+from c_examples import EXAMPLES, different, main, written
 from elf_to_policy import HEAD
 from rooms import said
 
@@ -15,8 +14,8 @@ OTHER = {**THERE, "sieve-1.s": THERE["sieve-1.s"] + ".word 0x00000000\n"}
 
 def checked(compiler, texts):
     """The status and the lines of a check where this compiler makes these texts."""
-    with mock.patch.object(c_examples, "made", lambda: texts):
-        status, out, _ = said(check, compiler)
+    with mock.patch.multiple(c_examples, made=lambda: texts, tools_here=lambda: compiler):
+        status, out, _ = said(main, ["--check"])
     return status, out.splitlines()
 
 
@@ -42,7 +41,3 @@ class Tests(unittest.TestCase):
 
     def test_what_a_person_wrote_is_not_compared(self):
         self.assertEqual((True, False, True), ("words.input" in THERE, "editor.input" in THERE, all(it.startswith(HEAD) for it in THERE.values())))
-
-
-if __name__ == "__main__":
-    unittest.main()

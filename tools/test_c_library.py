@@ -1,4 +1,3 @@
-#!/usr/bin/env python3
 """Tests of the C library of examples/c/lib/: its functions run on this machine beside those of the C library here.
 
 Each file of the library is compiled by `gcc`, and its functions get the prefix `lib_`. The tests of examples/c/lib/tests/ call both at their edges and
@@ -12,10 +11,12 @@ import tempfile
 import unittest
 from pathlib import Path
 
-from port import ADDRESS, EXAMPLES, PAGES, parts
+from port import EXAMPLES, of_pages, parts
 
 LIBRARY, TESTS = EXAMPLES / "lib", EXAMPLES / "lib" / "tests"
 HERE = all(map(shutil.which, ("gcc", "nm", "objcopy")))
+if not HERE:
+    print("test_c_library: no gcc here, so the C library is not tested")
 # What stops a function that shifts too far, or reads a word where none is.
 FLAGS = ["-std=c11", "-O1", "-g", "-Wall", "-Wextra", "-fwrapv", "-fno-builtin", "-fsanitize=undefined", "-fsanitize-undefined-trap-on-error"]
 PROGRAMS = [  # the examples with the library: their files, and one that lies in pages at 00500000
@@ -90,15 +91,7 @@ class Tests(unittest.TestCase):
         for name, sources, data in PROGRAMS:
             with self.subTest(name):
                 program, files = self.room / name, [EXAMPLES / it for it in sources]
-                if data:
-                    files.append(self.room / "pages.c")
-                    files[-1].write_text(PAGES % (ADDRESS, 4096, EXAMPLES / data), "utf-8")
-                run("gcc", "-std=c11", "-O1", "-fwrapv", "-o", program, *files)
+                run("gcc", "-std=c11", "-O1", "-fwrapv", "-o", program, *files, *(of_pages(EXAMPLES / data) if data else []))
                 done = run(program, input=keys(name), check=False, timeout=100)
                 status = f"\nexit {done.returncode}\n".encode() if done.returncode else b""
                 self.assertEqual(console(name), done.stdout + status)
-
-
-if __name__ == "__main__":
-    print("" if HERE else "test_c_library: no gcc here, so the C library is not tested", end="" if HERE else "\n")
-    unittest.main()

@@ -1,22 +1,13 @@
-#!/usr/bin/env python3
 """Tests of tools/came_model.py: it comes to texts that were written by hand, and flags add what they say and nothing else."""
 import unittest
 
 import case_files
 import trace_model
 from came_model import BAD_MEMORY, BY_HAND, PIECE, BadMemory, Window, came, window_of
-from case_files import DATA, files_in
+from case_files import DATA, files_in, policy_text
 
-CODE = """\
-version = 1
-frames = 2
-process = [{ start = 0x00400000, line = 0 }]
-page = [{ name = "code", source = "one.s", part = 0 }, { name = "data" }]
-rule = [
-    { process = 1, address = 0x00400000, right = "read", page = "code" },
-    { process = 1, address = 0x00410000, right = "read", page = "data" },
-]
-"""
+CODE = policy_text("", 2, 0, [(0x40_0000, 0)], [("code", "one.s", 0), ("data",)], [
+    (1, 0x40_0000, "read", "code", False), (1, 0x41_0000, "read", "data", False)])
 # What README.md has as its first example.
 DENIED = "lui $8,0x41\nlw $9,8($8)\nsw $0,8($8)\n"
 EMPTY = "console 0 0\n\nconsole 1 0\n\nconsole 2 0\n\nconsole 3 0\n\n"
@@ -99,7 +90,3 @@ class Tests(unittest.TestCase):
         for it in case_files.rows():
             if it.folder == DATA / BY_HAND and it.text.name in ("memory", "no_process_2", "no_process_100"):  # (of the others it knows nothing)
                 self.assertEqual(came(files_in(it.folder), it.words), (it.status, b"", it.text.read_bytes()), it.line)
-
-
-if __name__ == "__main__":
-    unittest.main()

@@ -1,4 +1,3 @@
-#!/usr/bin/env python3
 """Tests of tools/conformance.py: its guests on a plain model, and how it compares, without any peer."""
 import struct
 import tempfile
@@ -7,9 +6,9 @@ from unittest import mock
 
 import conformance
 from conformance import REASONS, Table, differing, same_text, words_drawn
-from conformance_buffer import bare_end, buffer_guest, handler
-from conformance_guests import CASES, CODE, EDGES, OUT, RESULTS, TABLE, bytes_of, call, dsmon_end, elf_of, fault_guest, faults, guest_of, pairs
-from conformance_late import BLOCKS, MINE, PLACES, SUMS, late_guest
+from conformance_guests import (
+    BLOCKS, CASES, CODE, EDGES, MINE, OUT, PLACES, RESULTS, SUMS, TABLE, bare_end, buffer_guest, bytes_of, call, dsmon_end, elf_of, fault_guest, faults, guest_of,
+    handler, late_guest, pairs)
 from elf_program import program_of
 from hostile_model import CODES, LOADS, Hostile, decode, encode, signed
 from rooms import said
@@ -109,7 +108,3 @@ class Tests(unittest.TestCase):
             status, out, _ = said(conformance.main, ["--dsmon", program.name])
             self.assertIn("no program", said(conformance.main, ["--dsmon", f"{program.name}x"])[0])
         self.assertEqual((0, 7), (status, out.count("skipped: no package")))
-
-
-if __name__ == "__main__":
-    unittest.main()

@@ -1,4 +1,3 @@
-#!/usr/bin/env python3
 """Tests debug_draws.py over lists of positions that were worked out by hand."""
 import unittest
 from types import SimpleNamespace
@@ -67,7 +66,3 @@ class Draws(unittest.TestCase):
     def test_a_program_that_answers_nothing(self):
         run = draws.RUNS[0]
         self.assertIn("was to come", draws.Drawn(run, draws.positions(*run), ["g"]).fault("/bin/true"))
-
-
-if __name__ == "__main__":
-    unittest.main()

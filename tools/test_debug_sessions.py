@@ -1,4 +1,3 @@
-#!/usr/bin/env python3
 """Tests debug_sessions.py, and that gdb_sessions.py names what there is."""
 import unittest
 
@@ -31,13 +30,9 @@ class Sessions(InARoom):
 
 class Gdb(unittest.TestCase):
     def test_its_examples_are_there(self):
-        for folder, asked, source, *_ in [*gdb_sessions.SESSIONS.values(), *gdb_sessions.RANDOM]:
+        for folder, asked, source, *_ in [*(it["place"] for it in gdb_sessions.SESSIONS), *gdb_sessions.RANDOM]:
             for name in [source, *(it for it in asked.split() if "." in it)]:
                 self.assertTrue((gdb_sessions.TOP / folder / name).is_file(), name)
 
     def test_what_lacks_in_its_order(self):
         self.assertEqual([None, "one"], [gdb_sessions.lacks("one two three", it) for it in (["one", "three"], ["three", "one"])])
-
-
-if __name__ == "__main__":
-    unittest.main()

@@ -1,24 +1,10 @@
-#!/usr/bin/env python3
 """Tests of tools/documents.py, over small repositories."""
-import unittest
 from pathlib import Path
 
 from documents import COLUMNS, LINES, faults
-from rooms import InARoom, placed
+from rooms import InARoom, placed, toy
 
-GOOD = {
-    "README.md": "# It\n\n`docs/machine.md`, `docs/crates.md`, `docs/theorems.md` and `docs/DECISIONS.md`; run `tools/run.py --all`.\n",
-    "docs/machine.md": "# Machine\n\n`docs/words.md` has the words, [the crates](crates.md) theirs.\n",
-    "docs/crates.md": "# Crates\n\n`src/lib.rt`, `specs/Word`, `crates/ds_word/src/`, `crates/NAME/wrong/F.WHAT.edit`, `a.b`.\n",
-    "docs/words.md": "# Words\n",
-    "docs/theorems.md": "# What is proved\n",
-    "docs/DECISIONS.md": "# Decisions\n",
-    "crates/ds_word/src/lib.rt": "",
-    "crates/ds_word/specs/Word.antt": "",
-    "tools/run.py": "",
-}
-
-
+GOOD = toy("documents")
 LONG = "≡" * (COLUMNS + 1)
 TOLD = [  # documents by their names that are otherwise, and what is told
     ({}, []),
@@ -48,7 +34,3 @@ class Tests(InARoom):
         for changed, wanted in TOLD:
             self.assertEqual(wanted, self.told(changed), changed)
         self.assertIn("README.md: missing", self.told({"README": None}))
-
-
-if __name__ == "__main__":
-    unittest.main()

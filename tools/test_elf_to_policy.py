@@ -1,9 +1,7 @@
-#!/usr/bin/env python3
 """Tests of tools/elf_to_policy.py, over small ELF files that are built here."""
 import re
 import struct
 import tomllib
-import unittest
 from pathlib import Path
 
 from c_examples import EXAMPLES, POLICIES
@@ -11,6 +9,7 @@ from elf_to_policy import HEAD, main
 from later_instructions import coprocessor, later
 from reading_model import input_refusal, policy_refusal
 from rooms import TOP, InARoom, placed, said
+from trace_model import image
 
 PAGE = 4096
 NOP, CALL = 0, 0x0000000C
@@ -91,6 +90,10 @@ KEYS = [  # the bytes of a file, the pace, and why they can't come in
 
 
 class Tests(InARoom):
+    def setUp(self):
+        super().setUp()
+        self.put(one=elf(SMALL))
+
     def put(self, **files):
         """Puts executables into a room of their own, in place of what was there."""
         self.number = getattr(self, "number", 0) + 1
@@ -112,14 +115,6 @@ class Tests(InARoom):
         self.assertIsNone(policy_refusal(held))
         return tomllib.loads(held.decode())
 
-    def image(self, source):
-        """The bytes of a source, by an own reader of `.word` and `.space`."""
-        image = bytearray()
-        for line in (self.into / source).read_text().splitlines():
-            form, number = re.fullmatch(r"#.*|\.(word 0x|space )([0-9A-F]+)", line).groups()
-            image += b"" if not form else bytes(int(number)) if form == "space " else int(number, 16).to_bytes(4, "little")
-        return bytes(image)
-
     def memory(self, process=1, name="one"):
         """What a process has in memory at first: each byte that is not zero, by its address; and the right of each page."""
         policy = self.policy(name)
@@ -127,7 +122,7 @@ class Tests(InARoom):
         for rule in (it for it in policy["rule"] if it["process"] == process):
             rights[rule["address"]] = rule["right"]
             page = pages[rule["page"]]
-            part = self.image(page["source"])[PAGE * page["part"]:PAGE * (page["part"] + 1)] if "source" in page else b""
+            part = image((self.into / page["source"]).read_text())[PAGE * page["part"]:PAGE * (page["part"] + 1)] if "source" in page else b""
             held |= memory_of([(rule["address"], part)])
         return held, rights
 
@@ -139,7 +134,6 @@ class Tests(InARoom):
         self.assertEqual(before, self.written())
 
     def test_a_program_becomes_a_process_with_its_pages_and_the_lines_to_type_are_told(self):
-        self.put(one=elf(SMALL))
         lines = [f"cd {self.into}", "dsmon check one.toml", "dsmon run one.toml one.input 1000000000 --summary --most 10000000"]
         self.assertEqual((0, lines, []), self.run_it())
         self.assertEqual({"one.toml", "one-1.s", "one.input"}, self.written())
@@ -156,7 +150,7 @@ class Tests(InARoom):
         self.assertEqual(0, self.run_it()[0])
         sources = [f"large-{k}.s" for k in range(1, 5)]
         self.assertEqual({"large.toml", "large.input", *sources}, self.written())
-        self.assertEqual([65536, 65536, 65536, 2 * PAGE + 4], [len(self.image(it)) for it in sources])
+        self.assertEqual([65536, 65536, 65536, 2 * PAGE + 4], [len(image((self.into / it).read_text())) for it in sources])
         self.assertEqual(memory_of(segments), self.memory(name="large")[0])
         pages = self.policy("large")["page"]
         self.assertEqual((50 + 3 + 4, 51), (len(pages), sum("source" in it for it in pages)))
@@ -183,7 +177,6 @@ class Tests(InARoom):
         self.assertEqual({("read", False), ("write", True)}, {(it["right"], it.get("give", False)) for it in policy["rule"]})
 
     def test_one_file_may_run_twice_and_its_code_is_there_once(self):
-        self.put(one=elf(SMALL))
         self.names *= 2
         self.assertEqual(0, self.run_it("--line", "1")[0])
         pages = [{it["address"]: it["page"] for it in self.policy()["rule"] if it["process"] == process} for process in (1, 2)]
@@ -250,7 +243,6 @@ class Tests(InARoom):
         self.assertGreater(refused, 500)
 
     def test_only_what_the_script_wrote_is_written_over(self):
-        self.put(one=elf(SMALL))
         self.assertEqual([0, 0], [self.run_it()[0], self.run_it()[0]])
         policy, source, keys = (self.into / it for it in ("one.toml", "one-1.s", "one.input"))
         before = policy.read_text()
@@ -263,7 +255,6 @@ class Tests(InARoom):
         self.assertEqual((0, before, "10 key 0 41\n"), (self.run_it()[0], policy.read_text(), keys.read_text()))
 
     def test_files_that_cannot_be_read_or_written_are_told(self):
-        self.put(one=elf(SMALL))
         mine = list(self.names)
         for name in [self.into / "none.elf", self.into, Path("/dev/null")]:
             self.names = [str(name)]
@@ -277,7 +268,6 @@ class Tests(InARoom):
         self.assertEqual((0, {"one.toml", "one-1.s", "one.input"}), (self.run_it()[0], self.written()))
 
     def test_wrong_words_are_told(self):
-        self.put(one=elf(SMALL))
         (self.into / "text").write_bytes(b"x")
         keys = ["--keys", f"{self.into}/text", "--pace"]
         for options in (["--stack", "257"], ["--stack", "-1"], ["--line", "4"], ["--line", "0,"], ["--line", "x"], [*keys, "0"], [*keys, "1000000001"], [*keys, "1e3"]):
@@ -365,7 +355,3 @@ class Tests(InARoom):
         document = (TOP / "docs/c.md").read_text()
         self.assertIn("".join(f"    {it}".rstrip() + "\n" for it in lines[:3]), document)
         self.assertIn(f"an empty log and the {lines[-1]}.", document)
-
-
-if __name__ == "__main__":
-    unittest.main()

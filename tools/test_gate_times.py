@@ -1,8 +1,6 @@
-#!/usr/bin/env python3
 """Tests of tools/gate_times.py: which process counts for what, and what is told and kept."""
 import json
 import sys
-import unittest
 
 from gate_times import TICKS, Process, belongs, below, main, process_of
 from rooms import InARoom, said
@@ -47,7 +45,3 @@ class Tests(InARoom):
         kept = self.room / "kept"
         self.assertEqual(3, said(main, ["--keep", str(kept), "--", sys.executable, "-c", "raise SystemExit(3)"])[0])
         self.assertEqual([], json.loads(kept.read_text("utf-8")))
-
-
-if __name__ == "__main__":
-    unittest.main()

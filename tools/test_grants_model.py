@@ -1,4 +1,3 @@
-#!/usr/bin/env python3
 """Tests of tools/grants_model.py, over the lines that tools/grants_cases.py answers: each refusal is asked with each other, and an end comes to drops."""
 import copy
 import random
@@ -46,7 +45,3 @@ class Tests(unittest.TestCase):
                 self.assertEqual(ended.table, dropped.table)
                 met += any(entry.parent in [(p, at) for at in order] for entry in model.row(p).values())
         self.assertGreater(met, 20)
-
-
-if __name__ == "__main__":
-    unittest.main()

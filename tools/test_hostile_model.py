@@ -1,4 +1,3 @@
-#!/usr/bin/env python3
 """Tests of tools/hostile_model.py, with the turns, grants and late copies below it. Rows that were written by hand are compared by tools/trace_model.py."""
 import re
 import unittest
@@ -42,7 +41,3 @@ class Tests(unittest.TestCase):
 
     def test_bytes_are_written_as_a_file_of_cases_has_them(self):
         self.assertEqual(escaped(b"console 0 4\n=\n\\\xff\nconsole 1 0\n\nlog 0\ntime 1\n"), "console 0 4\n\\x3D\\x0A\\x5C\\xFF\nconsole 1 0\n\nlog 0\ntime 1\n")
-
-
-if __name__ == "__main__":
-    unittest.main()

@@ -1,62 +1,21 @@
-#!/usr/bin/env python3
 """Tests of tools/page.py and of the page: what it is made of, and, where node is installed, the page's own scripts (tools/page/*_test.js)."""
 import base64
 import contextlib
 import shutil
 import subprocess
-import sys
 import unittest
 from unittest import mock
 
-from page import examples, files, kit, program, wasm
-from rooms import TOP, InARoom, placed, said, script
+from page import examples, files, program, wasm
+from rooms import TOP, InARoom, placed, said, script, toy
 
 COMMAND = script("page")
 NODE = shutil.which("node")
 TESTS = sorted((TOP / "tools/page").glob("*_test.js"))
-
-MODULE = """\
-target datalayout = "e-m:e-p270:32:32"
-target triple = "x86_64-unknown-linux-gnu"
-
-define i32 @"dsmon+main"() #0 {
-  ret i32 0
-}
-
-define i32 @"std+start"() #0 {
-  %r = call i32 @"dsmon+main"()
-  ret i32 %r
-}
-
-define i32 @main() #1 {
-  %h = call ptr @__sysv_signal(i32 13, ptr inttoptr (i64 1 to ptr))
-  %s = call i32 @"std+start"()
-  ret i32 %s
-}
-
-declare ptr @__sysv_signal(i32, ptr) #2
-declare i32 @__x86_get_cpuid_feature_leaf(i32)
-declare i32 @open(ptr, i32, ...) #2
-declare i32 @rattle_errno()
-declare ptr @memcpy(ptr, ptr, i64) #2
-declare void @llvm.trap() #3
-
-attributes #0 = { nounwind "probe-stack"="inline-asm" "target-cpu"="x86-64-v3" }
-attributes #1 = { nounwind }
-attributes #2 = { nounwind willreturn }
-attributes #3 = { cold noreturn }
-"""
-# A kit whose `rt` builds an object file of what stands in the crate's folder, by its clang.
-RT = """\
-#!/bin/sh
-set -e
-here=$(dirname "$0")
-echo "$*" >said
-mkdir -p out
-cat module.bc >out/given.bc
-"$here/../toolchain/bin/clang" -O3 out/given.bc out/dsmon.o
-"""
-CLANG = "#!/bin/sh\ncat \"$2\" >\"$3\"\n"
+if not NODE:
+    print("skipped: node is not installed")
+# The module of a program, and a kit whose `rt` builds an object file of what stands in the crate's folder, by its clang.
+MODULE, RT, CLANG = toy("page").values()
 
 
 class Made(InARoom):
@@ -75,7 +34,7 @@ class Made(InARoom):
             it.chmod(0o755)
 
     def test_a_kit_of_links_keeps_what_its_clang_is_given(self):
-        rt = kit.linked(self.kit, self.room / "kit", self.room / "kept.bc")
+        rt = program.linked(self.kit, self.room / "kit", self.room / "kept.bc")
         subprocess.run([rt, "run"], cwd=self.crate, check=True)
         for it in (self.room / "kept.bc", self.crate / "out/dsmon.o"):
             self.assertEqual("a module", it.read_text("utf-8"))
@@ -99,7 +58,7 @@ class Made(InARoom):
             self.assertEqual(held or "", (self.crate / "out/dsmon.o").read_text("utf-8") if held else "")
 
     def test_a_try_needs_no_proved_program(self):
-        self.assertEqual("a module", program.tried(self.top, self.kit, self.room).read_text("utf-8"))
+        self.assertEqual("a module", program.built(self.crate, self.kit, self.room, "try").read_text("utf-8"))
         self.assertEqual("try -- demo\n", (self.crate / "said").read_text("utf-8"))
 
     def test_a_folder_with_other_files_is_refused(self):
@@ -118,7 +77,7 @@ class Whole(InARoom):
         """Makes the page with a `wasm-opt` of this name, and returns what is said, and the text of each file by its name."""
         to = self.room / "to"
         stand_ins = {
-            "page.kit.installed": lambda: self.room, "page.program.tried": lambda *_: self.room / "module.bc",
+            "page.program.installed": lambda: self.room, "page.program.built": lambda *_: self.room / "module.bc",
             "page.wasm.compiled": lambda kit, module, room, to: to.write_bytes(b"64 bits"), "page.wasm.lowered": lambda wasm_opt, module, to: to.write_bytes(b"32 bits"),
             "shutil.which": lambda name: wasm_opt}
         with contextlib.ExitStack() as now:
@@ -201,19 +160,8 @@ class OneFile(InARoom):
             self.assertLess(len(it.read_text("utf-8").splitlines()), 400, it.name)
 
 
-def node_tests():
-    """Runs the tests of the page's scripts, and says how they went."""
-    words = [NODE, "--test", "--test-reporter=spec", *map(str, TESTS)]
-    done = subprocess.run(words, stdin=subprocess.DEVNULL, stdout=subprocess.PIPE, stderr=subprocess.STDOUT, text=True, errors="replace")
-    counts = [it.lstrip("ℹ ") for it in done.stdout.splitlines() if it.lstrip("ℹ ").startswith(("pass ", "fail "))]
-    print(done.stdout if done.returncode else f"node: {', '.join(counts)}")
-    return done.returncode
-
-
-if __name__ == "__main__":
-    is_good = unittest.main(exit=False).result.wasSuccessful()
-    if NODE:
-        is_good = node_tests() == 0 and is_good
-    else:
-        print("skipped: node is not installed")
-    sys.exit(0 if is_good else 1)
+class Scripts(unittest.TestCase):
+    @unittest.skipUnless(NODE, "node is not installed")
+    def test_the_scripts_of_the_page_pass_their_tests(self):
+        done = subprocess.run([NODE, "--test", "--test-reporter=spec", *TESTS], stdin=subprocess.DEVNULL, capture_output=True, text=True, errors="replace")
+        self.assertEqual(0, done.returncode, done.stdout + done.stderr)

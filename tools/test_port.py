@@ -1,7 +1,5 @@
-#!/usr/bin/env python3
 """Tests of tools/port.py: what the programs are given and how their texts are compared, with no package and no compiler."""
 import random
-import unittest
 import zlib
 from pathlib import Path
 from unittest import mock
@@ -126,7 +124,3 @@ class Tests(InARoom):
             port.ran(["sh", "-c", "echo why >&2; exit 3"])
         for words in (["gzip"], ["--from", "."], ["--from", ".", "zlib", "lz4"]):
             self.assertEqual(2, said(port.options, words)[0])
-
-
-if __name__ == "__main__":
-    unittest.main()

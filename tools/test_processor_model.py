@@ -1,4 +1,3 @@
-#!/usr/bin/env python3
 """Tests of tools/processor_model.py: units that were counted by hand, the longest unit, and what holds in each run."""
 import unittest
 
@@ -196,6 +195,3 @@ TWO_PAGES = policy_text(
     "", 4, 0, [(0x400000, 0)], [("code", "one.s", 0), ("more", "one.s", 1), ("data",)],
     [(1, 0x400000, "read", "code", False), (1, 0x401000, "read", "more", False), (1, 0x410000, "read", "data", False)])
 MANY = policy_text("", 1, 0, [(0x400000, 0)] * 64, [("code", "one.s", 0)], [(p, 0x400000, "read", "code", False) for p in range(1, 65)])
-
-if __name__ == "__main__":
-    unittest.main()

@@ -1,4 +1,3 @@
-#!/usr/bin/env python3
 """Tests of the verdicts that tools/refused_growths.py gives, over programs that a small model plays, and of its library over a command of the system."""
 import shutil
 import subprocess
@@ -7,7 +6,7 @@ import unittest
 from concurrent.futures import ThreadPoolExecutor
 
 from refused_growths import MEMORY, TOLD, Program, Row, Run, Wrong, check_cuts, compiled, main, passed, tests_of, tried
-from rooms import placed, said
+from rooms import placed, said, toy
 
 BEFORE, ALL = 6, 9  # the growths before a run, and in all; each of the others comes a turn later
 WHOLE = b"time 3\n"
@@ -54,19 +53,6 @@ class Tested:
         return self.run(words), 4
 
 
-# Asks three times for memory, the second time for more than before, and ends with which were refused.
-THREE = """\
-#include <stdlib.h>
-int main(void) {
-    int is = 0;
-    void *volatile a;
-    for (int k = 0; k < 3; k++) {
-        a = k == 1 ? realloc(a, 90) : malloc(40);
-        is = 2 * is + !a;
-    }
-    return is;
-}
-"""
 ROW = Row("a row", "/", "policy", 3, (0, 1, 2, 3))
 DONE = Run(0, WHOLE, b"")
 FINE = [  # what is answered otherwise, and how often the run is whole all the same
@@ -115,17 +101,13 @@ class Tests(unittest.TestCase):
             if not shutil.which("cc"):
                 self.skipTest("no C compiler")
             source, program = f"{folder}/three.c", f"{folder}/three"
-            placed(folder, {"three.c": THREE})
+            placed(folder, toy("refused_growths"))
             subprocess.run(["cc", "-O0", source, "-o", program], check=True)
             three = Program(library, program)
             self.assertEqual(three.counted([]), (Run(0, b"", b""), 3))
             self.assertEqual([three.run([], refuse=it).status for it in ("1", "2", "3", "1..", "2..", "3..", "4")], [4, 2, 1, 7, 3, 1, 0])
 
     def test_what_was_not_built_is_told(self):
-        status, out, _ = said(main, ["--dsmon", "/no/dsmon", "--tests", "/no/tests"])
+        status, out, _ = said(main, "/no/dsmon", "/no/tests")
         self.assertEqual(status, 0)
         self.assertIn("/no/dsmon was not built", out)
-
-
-if __name__ == "__main__":
-    unittest.main()

@@ -1,4 +1,3 @@
-#!/usr/bin/env python3
 """Tests of tools/release.py, over a toy repository with a toy gate, a stand-in for the program, and a toy kit."""
 import hashlib
 import io
@@ -7,65 +6,19 @@ import shutil
 import subprocess
 import sys
 import tarfile
-import unittest
 from unittest import mock
 
 from release import Refused, contents, licences
-from release.archive import File, archive
+from release.contents import File, archive
 from release.manual import SECTIONS, formatted, manual, section
-from rooms import TOP, InARoom, placed, said, script
+from rooms import TOP, InARoom, placed, said, script, toy
 
 COMMAND = script("release")
 
-HELPS = {
-    "": "Runs a station\n\nUsage: dsmon <COMMAND>\n\nCommands:\n  run   Runs processes\n  help  Print help\n\nOptions:\n  -h, --help  Print help\n\nThe status is 0.\n",
-    "run": "Runs processes\n\nUsage: dsmon run [OPTIONS] <POLICY>\n\nArguments:\n  <POLICY>  The policy's file\n\nOptions:\n      --random <R>  Where it starts\n\nExample:\n  dsmon run a.toml\n",
-}
-PROGRAM = """#!/bin/sh
-case "$*" in
-    demo) echo A; exit 0;;
-    --version) echo 'dsmon VERSION' >&2;;
-    --help) cat >&2 <<'END'
-WHOLEEND
-    ;;
-    *) cat >&2 <<'END'
-RUNEND
-esac
-exit 1
-""".replace("WHOLE", HELPS[""]).replace("RUN", HELPS["run"])
-GATE = """#!/bin/sh
-mkdir -p crates/dsmon/out && cp program crates/dsmon/out/dsmon && chmod +x crates/dsmon/out/dsmon
-printf '2 passed, 0 failed\\nrt: ok\\n7 refused, 0 not refused\\n0 refused, 0 not refused\\n3 passed, 0 failed\\n'
-"""
-README = "# dsmon\n\nIt simulates.\n\n## A denial\n\n    a = 1\n\n## A first look\n\nThere:\n\n    ./dsmon demo\n    (cd examples && cat hello.s)\n\nElsewhere:\n\n    false\n"
-FILES = {
-    "README.md": README,
-    "CHANGELOG.md": "# Changelog\n\n## 1.2.3\n\nAll.\n",
-    "LICENSE": "Any.\n",
-    "docs/policy.md": "# Policy\n\n## A policy\n\nIt is.\n\n## An input\n\n| Line | What |\n|---|---|\n| `T key` | a key |\n",
-    "docs/formats.md": "# Formats\n\n## What is written\n\n- one;\n- two\n  lines.\n\n## Statuses of the program\n\n| Status | When |\n|---|---|\n| 0 | done |\n",
-    "docs/refusals.md": "# Refusals\n\nThey are.\n\n| Number | Name | Status |\n|---|---|---|\n| 1 | `BadRandom` | 2 |\n",
-    "docs/gate.md": "# The gate\n",
-    "crates.txt": "# lines\nlow: memchr\nmiddle: low itoa\nother: regex\ndsmon may_abort=1: middle\n",
-    "crates/rows/data/examples/hello.s": "nop\n",
-    "crates/rows/data/examples/hello.expected": "time 1\n",
-    "crates/rows/data/examples/labs/README.md": "# Labs\n\n## One\n\nWhy?\n\n    dsmon run one.toml\n",
-    "crates/rows/data/examples/labs/answers.md": "Because.\n",
-    "crates/rows/data/examples/course/answers/one.s": "    nop\n",
-    "crates/rows/data/examples/labs/one.told": "answer\n",
-    **{f"tools/{it}": "#!/usr/bin/env python3\n" for it in contents.SCRIPTS},
-    ".gitignore": "out/\n",
-    ".ci/run": GATE,
-    "program": PROGRAM.replace("VERSION", "1.2.3"),
-}
-KIT = {
-    "rlibs/std.rlib/format": "crate std\ndep core\n", "rlibs/core.rlib/format": "crate core\n",
-    "rlibs/memchr.rlib/format": "crate memchr\ndep std\n", "rlibs/itoa.rlib/format": "crate itoa\n",
-    "rattle/memchr/LICENSE-MIT": "Permission of memchr\n", "rattle/itoa/LICENSE": "Permission of itoa\n", "rattle/itoa/README.md": "no licence\n",
-    "rattle/core/src/text/mod.rt": "// Reads.\n// Permission is hereby granted, free of charge.\nmod other;\n", "rattle/core/src/lib.rt": "// Plain.\n",
-}
-
-
+HELPS = {name.replace("dsmon", ""): text for name, text in toy("release", "help/").items()}
+KIT = toy("release", "kit/")
+FILES = toy("release", "top/") | {f"tools/{it}": "#!/usr/bin/env python3\n" for it in contents.SCRIPTS}
+README, GATE, PROGRAM = (FILES[it] for it in ("README.md", ".ci/run", "program"))
 ARCHIVE = "dsmon-1.2.3-x86_64-linux"
 FAILED = [  # what a gate does, and how that is told
     ("echo '1 passed, 1 failed'; exit 1", "status 1, and it said at last: 1 passed, 1 failed"),
@@ -76,16 +29,15 @@ FAILED = [  # what a gate does, and how that is told
     ("echo '0 passed, 0 failed'", "status 0, and it said at last: 0 passed, 0 failed"),
     ("echo '2 passed, 0 failed (low alone: not the gate)'", "status 0, and it said at last: 2 passed, 0 failed (low alone: not the gate)"),
 ]
-OTHER_PROGRAM = PROGRAM.replace("VERSION", "1.2.3")
 REFUSED = [  # other files than those of the toy, and what is told then
     *(({".ci/run": f"#!/bin/sh\n{gate}\n"}, f"the gate didn't pass: {why}") for gate, why in FAILED),
     ({".ci/run": GATE + "echo more >> README.md\n"}, "the gate changed files, so that its clone isn't clean: README.md"),
     ({".ci/run": None}, "the gate can't be run: [Errno 2] No such file or directory: '.ci/run'"),
     ({".ci/run": "#!/bin/sh\necho '5 passed, 0 failed'\n"}, "the gate left no program in crates/dsmon/out"),
-    ({"program": PROGRAM.replace("VERSION", "0.1.0")}, "the program calls itself 0.1.0, and CHANGELOG.md begins with 1.2.3"),
+    ({"program": PROGRAM.replace("1.2.3", "0.1.0")}, "the program calls itself 0.1.0, and CHANGELOG.md begins with 1.2.3"),
     *(({"CHANGELOG.md": changes}, "CHANGELOG.md begins with no version, such as `## 1.0.0`") for changes in ("# Changelog\n", "# Changelog\n\n## Next\n\n## 1.2.3\n")),
     ({"README.md": README.replace("hello.s", "hello.t")}, f"in the archive `cd {ARCHIVE} && (cd examples && cat hello.t)` has status 1: cat: hello.t: No such file or directory"),
-    ({"program": OTHER_PROGRAM.replace("exit 0", "exit 4")}, f"in the archive `cd {ARCHIVE} && ./dsmon demo` has status 4: A"),
+    ({"program": PROGRAM.replace("exit 0", "exit 4")}, f"in the archive `cd {ARCHIVE} && ./dsmon demo` has status 4: A"),
     ({"docs/formats.md": "# Formats\n\n## What is written\n\nIt.\n"}, "docs/formats.md has no section Statuses of the program, and the manual page has it"),
 ]
 PAGES = [  # what `MADE` of a page says, with other files than it has the sum of, and what is told then
@@ -194,7 +146,7 @@ class Tests(InARoom):
         self.assertIn(b"9 passed, 0 failed\n", self.packed("dsmon-1.2.3-candidate-x86_64-linux")["MADE"][1])
 
     def test_the_program_may_need_the_c_library_of_this_machine_alone(self):
-        self.committed(program=OTHER_PROGRAM + "# GLIBC_2.9 GLIBC_2.34 GLIBC_2.4\n")
+        self.committed(program=PROGRAM + "# GLIBC_2.9 GLIBC_2.34 GLIBC_2.4\n")
         self.assert_refused("the program needs libm.so.6, and the C library alone is promised", needs=["linux-vdso.so.1", "libm.so.6", "libc.so.6"])
         self.assertEqual(0, self.said(needs=["linux-vdso.so.1", "libc.so.6", "/lib64/ld-linux-x86-64.so.2"])[0])
         self.assertIn(b"it needs the C library, glibc 2.34 or later", self.packed()["MADE"][1])
@@ -282,7 +234,3 @@ class Pages(InARoom):
             if shutil.which(words[0]):
                 done = subprocess.run(words, capture_output=True, text=True)
                 self.assertEqual("", done.stdout + done.stderr)
-
-
-if __name__ == "__main__":
-    unittest.main()

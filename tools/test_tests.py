@@ -1,6 +1,4 @@
-#!/usr/bin/env python3
 """Tests of tools/tests.py: each script is run, and one that fails is told."""
-import unittest
 from pathlib import Path
 
 from rooms import InARoom, placed, said
@@ -31,7 +29,3 @@ class Tests(InARoom):
         self.assertLessEqual({f"tools/{it.name}" for it in Path(TOP, "tools").glob("test_*.py")}, set(names))
         self.assertEqual([], [it for it in names if not Path(TOP, it).is_file()])
         self.assertEqual(len(names), len(set(names)))
-
-
-if __name__ == "__main__":
-    unittest.main()

@@ -1,4 +1,3 @@
-#!/usr/bin/env python3
 """Tests of tools/trace_model.py: words are written as a listing has them, a window leaves out lines and nothing else, and counts add up."""
 import re
 import subprocess
@@ -141,7 +140,3 @@ class Tests(unittest.TestCase):
             table = {(p, address): said for time, _, p, address, said in whole if int(time) <= first}
             opening = {(p, address): said for time, _, p, address, said in found if int(time) == first}
             self.assertEqual({place: said for place, said in table.items() if said != "gone"} if found else {}, opening, begin)
-
-
-if __name__ == "__main__":
-    unittest.main()

@@ -1,4 +1,3 @@
-#!/usr/bin/env python3
 """Tests of tools/unit_course.py: it passes over the course as it is, and fails over others."""
 import unittest
 
@@ -36,7 +35,3 @@ class Tests(unittest.TestCase):
         [slot] = nexts(first)
         [service] = nexts(slot)
         self.assertEqual((2, [], frozenset()), (service.spent, nexts(service), service.met))
-
-
-if __name__ == "__main__":
-    unittest.main()

@@ -1,46 +1,15 @@
-#!/usr/bin/env python3
 """Tests of tools/wrong_bodies.py, over a small crate in a folder of its own."""
 import shutil
 import subprocess
 import sys
 from pathlib import Path
-from unittest import main, mock
+from unittest import mock
 
-from rooms import InARoom, placed
+from rooms import InARoom, placed, toy
 from wrong_bodies import census, crates, proving
 
-CODE = """\
-#![tactic(auto)] ghost use Rattle.std.specs.Prelude.{◌≡◌, ◌≤◌, ◌<◌, ◌+◌}; ghost use Rattle.toy.specs.Numbers.{order_of, after};
-pub enum Lamp { Red, Green } const FIRST: u32 = 1; pub struct Digit { n: u32, ghost small: { n < 10 } }
-impl Digit { pub fn of(n: u32) -> Option<Digit> { if n < 10 { Some(Digit { n }) } else { None } } }
-pub fn a_number_is_below_the_next(n: u32) ensures { n < after n } {} pub fn twice(n: u32) -> u32 requires { n ≤ 1000 } ensures { result ≡ n + n } { sum(n, n) }
-fn sum(a: u32, b: u32) -> u32 requires left { a ≤ 1000 } requires right { b ≤ 1000 } ensures { result ≡ a + b } { a + b }
-pub fn next(n: u32) -> u32 requires { n ≤ 1000 } ensures up { n < result } ensures next { result ≡ n + 1 } { n + FIRST }
-pub fn order(lamp: Lamp) -> u32 ensures { result ≡ order_of lamp } { match lamp { Lamp::Red => 3, Lamp::Green => 4 } }
-pub trait Rank { fn rank(&self) -> u32 ensures { result ≤ 4 }; }
-impl Rank for Lamp { fn rank(&self) -> u32 { match self { Self::Red => 3, Self::Green => 4 } } }
-pub fn many() -> u32 ensures a { result ≡ 1 } ensures b { result ≡ 1 } ensures c { result ≡ 1 } ensures d { result ≡ 1 } ensures e { result ≡ 1 } { 1 }
-"""
-NUMBERS = """\
-use Rattle.std.specs.Prelude.{ℕ, ◌+◌}
-use Rattle.toy.specs.declared.Lamp.{Lamp}
-use Rattle.toy.specs.declared.Lamp.TheVariants.{Red, Green}
-abbrev pub order_of : Lamp → ℕ
-order_of Red = 3
-order_of Green = 4
-abbrev pub double : ℕ → ℕ
-double n = n + n
-abbrev pub after : ℕ → ℕ
-after n = n + 1
-"""
-ROWS = """\
-use Rattle.std.specs.Prelude.{◌≡◌, refl}
-use Rattle.toy.specs.Numbers.{double}
-pub double_0_is_0 : double 0 ≡ 0
-double_0_is_0 = refl
-pub double_2_is_4 : double 2 ≡ 4
-double_2_is_4 = refl
-"""
+FILES = toy("wrong_bodies")
+NUMBERS = FILES["specs/Numbers.antt"]
 PROVED = "NOT REFUSED: the crate is still proved with this edit"
 # By its name what is told of an edit, its old and new text, and its other lines.
 EDITS = {
@@ -76,7 +45,7 @@ class Test(InARoom):
     def crate(self, edits, **others):
         """Writes a crate with its edits, each over the file that has its old text, and returns the folder."""
         shutil.rmtree(self.room / "crates", ignore_errors=True)
-        files = {"src/lib.rt": CODE, "specs/Lib.antt": "pub mod Numbers\npub mod Rows\n", "specs/Numbers.antt": NUMBERS, "specs/Rows.antt": ROWS}
+        files = dict(FILES)
         for name, (_, old, new, *lines) in edits.items():
             file = "specs/Numbers.antt" if old in NUMBERS else "src/lib.rt"
             files[f"wrong/{name}.edit"] = "\n".join([f"file: {file}", *lines, f"old: {old}", f"new: {new}", ""])
@@ -118,7 +87,3 @@ class Test(InARoom):
         self.assertEqual([], self.lacks(few, "# what follows\nimplied: next up by next\n"))
         self.assertIn("toy/wrong/implied: there is nothing of this line: implied: next down by next", self.lacks(few, "implied: next down by next"))
         self.assertIn("toy: 4 edits of twice, more than 3", self.lacks({f"twice.{n}": ("", "sum(n, n)", f"sum(n, n) + {n}") for n in range(1, 5)}))
-
-
-if __name__ == "__main__":
-    main()

@@ -11,15 +11,14 @@ tools/processor_model.py. It has no touch, so it stops with NotQuiet at a guest 
 import re
 import sys
 import tomllib
-from collections import Counter
-from typing import NamedTuple, Optional
+from collections import Counter, namedtuple
 
 import case_files
 from case_files import files_in
 from grants_model import NUMBERS
 from hostile_model import CODES, LOADS, STORES, Hostile, NotQuiet, decode, encode, signed
 from processor_model import Processor
-from turns_model import MASK, NAMES, UNKNOWN, Denied, assemble
+from turns_model import MASK, NAMES, UNKNOWN, Denied, operands
 
 BRANCHES = ("beq", "bne", "blez", "bgtz", "bltz", "bgez", "bltzal", "bgezal")
 LINKS, JUMPS = {"jal": 31, "bltzal": 31, "bgezal": 31}, ("j", "jal", "jr", "jalr", *BRANCHES)
@@ -31,22 +30,8 @@ REFUSALS, COMMON = {number: name for name, number in NUMBERS.items()}, list(NAME
 MODES = {1: "read", 2: "write", 3: "copy"}
 MOST_TURNS = 60_000
 SWITCHES = {"processor", "entries", "source", "names", "summary", "must-end", "inside", "quiet", "matches", "counts"}  # flags without a value
-
-
-# What words ask for.
-
-class View(NamedTuple):
-    """What is told of a run."""
-
-    begin: int = 0
-    end: int = 2**63
-    processes: frozenset = frozenset()
-    only: Optional[str] = None
-    processor: bool = False
-    entries: bool = False
-    source: bool = False
-    names: bool = False
-    random: int = 63
+# What is told of a run: from when on and until when, of which processes (of all, where there is none), of which kind alone, with what besides, and the start of Random.
+View = namedtuple("View", "begin end processes only processor entries source names random", defaults=(0, 2**63, frozenset(), None, *[False] * 4, 63))
 
 
 def asked(words):
@@ -60,13 +45,15 @@ def asked(words):
     return names, flags
 
 
+def number(flags, flag, other):
+    """The number after a flag, or another one."""
+    return int(flags[flag][-1]) if flag in flags else other
+
+
 def view_of(flags):
-    number = lambda flag, other: int(flags[flag][-1]) if flag in flags else other  # noqa: E731
-    switches = (it in flags for it in ("processor", "entries", "source", "names"))
-    return View(number("from", 0), number("to", 2**63), frozenset(map(int, flags.get("process", ()))), flags.get("only", [None])[-1], *switches, number("random", 63))
+    window, switches = (number(flags, "from", 0), number(flags, "to", 2**63)), (it in flags for it in ("processor", "entries", "source", "names"))
+    return View(*window, frozenset(map(int, flags.get("process", ()))), flags.get("only", [None])[-1], *switches, number(flags, "random", 63))
 
-
-# Texts to a run.
 
 def lines_of(text):
     """Of each line of a source where it begins and ends in the image, its labels, and the name and the operands of its statement."""
@@ -98,27 +85,24 @@ def places(text):
 
 def piece(at, name, rest, labels, start=0x40_0000):
     """The bytes of a statement at a place of its image; images begin at a multiple of the page's size, and jumps at 00400000."""
-    if name == ".space":
-        return bytes(int(rest, 0))
-    if name == ".byte":
-        return bytes([int(rest, 0) & 255])
-    if name == ".word":
-        return (labels[rest.strip()] + start if rest.strip() in labels else int(rest, 0) & MASK).to_bytes(4, "little")
-    if name in ("syscall", "break"):
-        return (encode(name) | int(rest or "0", 0) << 6).to_bytes(4, "little")
-    if name in SYSTEM_WORDS:
-        return SYSTEM_WORDS[name].to_bytes(4, "little")
-    if name in ("mfc0", "mtc0"):
-        (_, to, of), = assemble(f"{name} {rest}", 0).values()
-        return ((0x4080_0000 if name == "mtc0" else 0x4000_0000) | to << 16 | of << 11).to_bytes(4, "little")
-    (_, *o), = assemble(re.sub(r"\b[A-Za-z_]\w*$", lambda m: str(labels[m[0]] + start) if m[0] in labels else m[0], f"{name} {rest}"), 0).values()
-    if name in BRANCHES:
-        o = (*o[:-1], (o[-1] - start - at - 4) // 4)
-    elif name in ("j", "jal"):
-        o = (o[0] >> 2,)
-    elif name == "jalr" and len(o) == 1:
-        o = (31, *o)
-    return (0 if name == "nop" else encode(name, *o)).to_bytes(4, "little")
+    match name:
+        case ".space": return bytes(int(rest, 0))
+        case ".byte": return bytes([int(rest, 0) & 255])
+        case ".word": word = labels[rest.strip()] + start if rest.strip() in labels else int(rest, 0) & MASK
+        case "syscall" | "break": word = encode(name) | int(rest or "0", 0) << 6
+        case "nop": word = 0
+        case "mfc0" | "mtc0":
+            _, to, of = operands(f"{name} {rest}")
+            word = (0x4080_0000 if name == "mtc0" else 0x4000_0000) | to << 16 | of << 11
+        case _ if name in SYSTEM_WORDS: word = SYSTEM_WORDS[name]
+        case _:
+            _, *o = operands(re.sub(r"\b[A-Za-z_]\w*$", lambda m: str(labels[m[0]] + start) if m[0] in labels else m[0], f"{name} {rest}"))
+            if name in BRANCHES:
+                o[-1] = (o[-1] - start - at - 4) // 4
+            elif name in ("j", "jal"):
+                o = (o[0] >> 2,)
+            word = encode(name, *([31] if name == "jalr" and len(o) == 1 else []), *o)
+    return word.to_bytes(4, "little")
 
 
 def begun(read, policy, given, kind=Hostile, *more):
@@ -139,17 +123,14 @@ def begun(read, policy, given, kind=Hostile, *more):
 def events_of(text, names):
     """The events of an input: a time with a command and its operands, or with a key, its line and its bytes."""
     events = []
-    for time, what, *o in (line.split(" ") for line in text.splitlines() if line and line[0] != "#"):
-        if what == "key":
-            events.append((int(time), "key", int(o[0]), bytes.fromhex(o[1])))
-        elif what == "grant":
-            events.append((int(time), what, int(o[0]), int(o[1], 16), names.index(o[2]), o[3], len(o) > 4))
-        else:
-            events.append((int(time), what, int(o[0]), *(int(it, 16) for it in o[1:])))
+    for time, what, first, *o in (line.split(" ") for line in text.splitlines() if line and line[0] != "#"):
+        match what:
+            case "key": rest = [bytes.fromhex(o[0])]
+            case "grant": rest = [int(o[0], 16), names.index(o[1]), o[2], len(o) > 3]
+            case _: rest = [int(it, 16) for it in o]
+        events.append((int(time), what, int(first), *rest))
     return events
 
-
-# The text of a word.
 
 def operand(name, o, k):
     """The text of operand k of an instruction."""
@@ -207,7 +188,7 @@ class Traced(Processor):
     def __init__(self, *begun):
         *begun, self.view = begun
         self.began, self.lines, self.left, self.is_open = 0, [], [], False
-        self.happened, self.called, self.denied = Counter(), Counter(), Counter()
+        self.happened, self.called, self.denied, self.told_lost, self.first_lost = Counter(), Counter(), Counter(), Counter(), {}
         super().__init__(*begun, self.view.random)
 
     # What is told, and what is counted.
@@ -221,9 +202,8 @@ class Traced(Processor):
     def is_in_view(self):
         return self.view.begin <= self.began < self.view.end
 
-    def tell(self, line):
-        if self.is_in_view():
-            self.lines.append(line)
+    def tell(self, *lines):
+        self.lines += lines if self.is_in_view() else ()
 
     def counts(self, *kinds):
         if self.view.begin <= self.began and self.view.only != "end":  # (what goes unit by unit, up to the run's end, also where `--to` ends before)
@@ -232,17 +212,6 @@ class Traced(Processor):
     def count(self, kind, number=1):
         if self.is_in_view():
             self.happened[kind] += number
-
-    def count_call(self, number, mode, answer):
-        self.count("call")
-        self.count("copy", (number, mode, answer) == (GIVE, COPY, 0))
-        if self.is_in_view():
-            self.called[min(number, UNKNOWN)] += 1
-
-    def count_denials(self, lines):
-        self.count("denial", len(lines))
-        if self.is_in_view():
-            self.denied.update(map(rule_of, lines))
 
     def word(self, p, address):
         """The word at an address, where the process may fetch it."""
@@ -261,18 +230,9 @@ class Traced(Processor):
         if not self.view.entries or self.view.only == "end":
             return
         for p in filter(self.shows, self.processes):
-            for q, address in before:
-                if q == p and (q, address) not in self.table:
-                    self.tell(f"{time} entry {p} {address:08X} gone")
-            for (q, address), entry in self.table.items():
-                if q == p and before.get((q, address)) != entry:
-                    self.tell(f"{time} entry {p} {address:08X} {words_of(entry)}")
-
-    def open(self):
-        """All entries, before the first turn that is told."""
-        if self.is_in_view() and not self.is_open:
-            self.is_open = True
-            self.tell_entries(self.began, {})
+            new = {place: entry for place, entry in self.table.items() if before.get(place) != entry}
+            self.tell(*(f"{time} entry {p} {address:08X} gone" for q, address in before if q == p and (q, address) not in self.table))
+            self.tell(*(f"{time} entry {p} {address:08X} {words_of(entry)}" for (q, address), entry in new.items() if q == p))
 
     def tell_changes(self, before):
         """Who stands otherwise, who gives way, and who runs."""
@@ -280,9 +240,8 @@ class Traced(Processor):
         self.count("switch", old != new)
         if not self.tells("switches"):
             return
-        for p, q in self.processes.items():
-            if q.state != before["standings"][p] and self.shows(p):
-                self.tell(f"{self.time} {p} {q.state.lower()}")
+        changed = ((p, q.state) for p, q in self.processes.items() if q.state != before["standings"][p])
+        self.tell(*(f"{self.time} {p} {state.lower()}" for p, state in changed if self.shows(p)))
         if old and old != new and self.processes[old].state == "Ready" and self.shows(old):
             self.tell(f"{self.time} {old} gives way")
         if old != new and any(p and self.shows(p) for p in (old, new)):
@@ -295,9 +254,7 @@ class Traced(Processor):
         name, *o = decode_all(word)
         r, n = self.processes[p].r, writes(name, o)
         if name in STORES and o[2] not in (26, 27):
-            address = (r[o[2]] + signed(o[1], 16) & MASK) & ~3
-            value = self.word(p, address)
-            return "" if value is None else f"  {address:08X}={value:08X}"
+            return self.held(p, r[o[2]] + signed(o[1], 16))
         return "" if n is None or n in HIDDEN else f"  ${n}={r[n]:08X}"
 
     def source_of(self, before, p, address):
@@ -319,12 +276,14 @@ class Traced(Processor):
         name, *o = decode_all(word)
         if not self.view.source or name not in LOADS or o[2] in (26, 27, link):
             return ""
-        address = (r[o[2]] + signed(o[1], 16) & MASK) & ~3
-        value = self.word(p, address)
-        return "" if value is None else f"  {address:08X}={value:08X}"
+        return self.held(p, r[o[2]] + signed(o[1], 16))
+
+    def held(self, p, address):
+        """The word around an address, where the process may fetch it."""
+        value = self.word(p, address & MASK & ~3)
+        return "" if value is None else f"  {address & MASK & ~3:08X}={value:08X}"
 
     def line_of(self, before, p, time, pc, word, call, left):
-        """The line of an instruction."""
         text = f"{time} {p} {pc:08X} {self.with_names(text_of(word))}{call}{self.with_names(left)}"
         return self.source_of(before, p, pc) + text
 
@@ -340,21 +299,22 @@ class Traced(Processor):
         self.time += self.unit(p)
         logged = self.log[before["logged"]:]
         done = not logged or name == "syscall"
-        self.count("unit")
-        self.count_denials(logged)
-        if call:
-            self.count_call(number, mode, q.r[2])
+        if self.is_in_view():
+            self.happened += Counter(unit=1, denial=len(logged), call=bool(call), copy=bool(call) and (number, mode, q.r[2]) == (GIVE, COPY, 0))
+            self.denied.update(map(rule_of, logged))
+            self.called.update([min(number, UNKNOWN)] if call else [])
         if self.tells("units", *(["calls"] if call else [])) and self.shows(p):
             if word is not None:
                 left = self.result(p, word) + self.word_loaded(p, word, r) if done else ""
-                self.tell(self.line_of(before, p, time, pc, word, call, left + self.refusal(call, q.r[2])))
+                is_about_grants = call.split()[:1] in (["give"], ["take"], ["drop"])
+                left += f" {REFUSALS[q.r[2]]}" if is_about_grants and q.r[2] in REFUSALS else ""
+                self.tell(self.line_of(before, p, time, pc, word, call, left))
             if slot is not None:
                 link = o[0] if name == "jalr" else LINKS.get(name)
                 left = self.result(p, slot) + self.word_loaded(p, slot, r, link) if done else ""
                 self.tell("  " + self.line_of(before, p, time, pc + 4 & MASK, slot, "", left))
         if self.tells("denials") and self.shows(p):
-            for line in logged:
-                self.tell(f"denied {line}")
+            self.tell(*(f"denied {line}" for line in logged))
         self.tell_entries(self.time, before["table"])
         self.tell_changes(before)
 
@@ -365,31 +325,23 @@ class Traced(Processor):
             return f"  unknown {n}: no call has this number"
         return "  " + " ".join([CALLS[min(n, UNKNOWN)], *words.get(n, [])])
 
-    def refusal(self, call, answer):
-        is_about_grants = call.split()[:1] in (["give"], ["take"], ["drop"])
-        return f" {REFUSALS[answer]}" if is_about_grants and answer in REFUSALS else ""
-
     # A boundary.
 
     def boundary_half(self, runner):
-        before, lost_before = self.looked(), self.lost.total()
+        before, lost_before = self.looked(), Counter(self.lost)
         self.expire(self.time)
         for what, *o in self.commands():
             if self.tells():
-                words = f" {o[0]}" + (f" {o[1]:08X}" if len(o) > 1 else "")
-                self.tell(f"{self.time} command {self.command + 1} {what}{words}")
+                self.tell(f"{self.time} command {self.command + 1} {what} {o[0]}" + (f" {o[1]:08X}" if len(o) > 1 else ""))
             self.obey(what, *o)
-        for line in self.log[before["logged"]:]:
-            if self.tells():
-                self.tell(line)
-        lost = self.lost.total() - lost_before
-        self.count("lost", lost)
+        lost = self.lost - lost_before
+        self.count("lost", lost.total())
+        if self.is_in_view() and self.view.only != "end":
+            self.told_lost += lost
+            self.first_lost = dict.fromkeys(lost, self.time) | self.first_lost
         if self.tells():
-            for line, queue in enumerate(self.queues):
-                for byte in queue[before["queued"][line]:]:
-                    self.tell(f"{self.time} key {line} {byte:02X}")
-            if lost:
-                self.tell(f"{self.time} lost {lost}")
+            keys = ((line, byte) for line, queue in enumerate(self.queues) for byte in queue[before["queued"][line]:])
+            self.tell(*self.log[before["logged"]:], *(f"{self.time} key {line} {byte:02X}" for line, byte in keys), *[f"{self.time} lost {lost.total()}"] * bool(lost))
         self.wake()
         self.rotate(runner, self.began)
         self.enter()
@@ -405,7 +357,9 @@ class Traced(Processor):
         if self.time >= self.view.begin:  # (what comes before goes by at once)
             self.leave()
         self.began, runner = self.time, self.ready[0] if self.ready else None
-        self.open()
+        if self.is_in_view() and not self.is_open:  # all entries, before the first turn that is told
+            self.is_open = True
+            self.tell_entries(self.began, {})
         if runner:
             self.unit_half(runner)
         else:
@@ -415,11 +369,15 @@ class Traced(Processor):
 
     # The end.
 
+    def denied_at_all(self):
+        """How often each rule stands in the log, which has commands that were refused, too."""
+        return Counter(rule_of(line) for line in self.log if line.split(" ")[1] != "command")
+
     def counted(self):
         """The lines of what was counted; where the end alone is told, of the whole log."""
         if self.view.only == "end":
             yield f"time {self.time}"
-            denied = Counter(rule_of(line) for line in self.log if not is_refused_command(line))
+            denied = self.denied_at_all()
         else:
             n, denied = self.happened, self.denied
             yield (f"from {self.view.begin} units {n['unit']} idle {n['idle']} switches {n['switch']} calls {n['call']}"
@@ -448,29 +406,11 @@ class Traced(Processor):
         return "".join(f"{line}\n" for line in lines).encode() + super().text()
 
 
-# Entries.
-
 def words_of(entry):
     """All that an entry is."""
-    words = [entry.right]
-    if entry.page is not None:
-        words += ["page", entry.page + 1]
-    words += ["rule", entry.rule]
-    if entry.until is not None:
-        words += ["until", entry.until]
-    if entry.give:
-        words.append("give")
-    if entry.giver:
-        words += ["giver", entry.giver]
-    if entry.parent:
-        words += ["parent", entry.parent[0], f"{entry.parent[1]:08X}"]
-    return " ".join(map(str, words))
-
-
-# Lines of the log.
-
-def is_refused_command(line):
-    return line.split(" ")[1] == "command"
+    words = [entry.right, f"page {entry.page + 1}" if entry.page is not None else "", f"rule {entry.rule}"]
+    words += [f"until {entry.until}" if entry.until is not None else "", "give" if entry.give else "", f"giver {entry.giver}" if entry.giver else ""]
+    return " ".join(filter(None, [*words, "parent {} {:08X}".format(*entry.parent) if entry.parent else ""]))
 
 
 def rule_of(line):
@@ -478,7 +418,11 @@ def rule_of(line):
     return line.split(" ")[5]
 
 
-# Commands and rows.
+def memory_lines(whose, address, count, text_at):
+    """Words of memory, eight in a line, by a function from an address to a word's text."""
+    for k in range(0, count, 8):
+        yield f"memory {whose}{address + 4 * k:08X}: {' '.join(text_at(address + 4 * it) for it in range(k, min(k + 8, count)))}\n"
+
 
 def traced(read, words):
     """What `dsmon` writes for these words, the first of which is `trace`, with a function from a file's name to its text."""
@@ -488,18 +432,15 @@ def traced(read, words):
     return run.text()
 
 
-def ran(read, words):
-    """What it writes for words the first of which is `run`, or none where that takes more turns than the model goes through."""
-    (_, policy, given, n), _ = asked(words)
-    run = begun(read, policy, given)
-    run.run(int(n), MOST_TURNS)
-    return run.text() if run.time >= int(n) or run.has_ended() else None
-
-
 def told(read, words):
-    """Either, or none where the model can't tell."""
+    """What it writes for words the first of which is `trace` or `run`; none where the model can't tell, or a run takes more turns than it goes through."""
     try:
-        return (traced if words[0] == "trace" else ran)(read, words)
+        if words[0] == "trace":
+            return traced(read, words)
+        (_, policy, given, n), _ = asked(words)
+        run = begun(read, policy, given)
+        run.run(int(n), MOST_TURNS)
+        return run.text() if run.time >= int(n) or run.has_ended() else None
     except NotQuiet:
         return None
 

@@ -93,16 +93,12 @@ class Made(AddressSpaces, Hostile):
         address = rng.choice([OWN, NEXT, GIVEN, FAR])
         what = rng.choices(["load", "store", "give", "take", "drop", "yield", "exit"],
                            [30, 20, 16, 12, 3, 20 if self.rate else 45, 0.2])[0]
-        if what == "yield" or (what == "exit" and (self.count == 70 or len(self.alive()) < 80)):
-            return word_of(3)
-        if what == "exit":
-            return word_of(0)
-        if what == "give":
-            return self.gift(p)
-        if what == "take":
-            return word_of(7, *self.taken_back(p))
-        if what == "drop":
-            return word_of(8, GIVEN)
+        match what:
+            case "exit" if self.count != 70 and len(self.alive()) >= 80: return word_of(0)
+            case "yield" | "exit": return word_of(3)
+            case "give": return self.gift(p)
+            case "take": return word_of(7, *self.taken_back(p))
+            case "drop": return word_of(8, GIVEN)
         is_store = what == "store"
         if not self.allows(p, address, is_store) and (self.parked() >= PARKED or rng.random() < 0.6):
             return word_of(3)
@@ -189,7 +185,6 @@ class Made(AddressSpaces, Hostile):
 
 
 def policy_of(made, name):
-    """The policy of a row."""
     about = f"{made.count} processes that take turns. Written by tools/turns_cases.py."
     pages = [("code", "turns.s", 0), *((f"plan{k}", f"{name}.s", k - 1) for k in range(1, made.plans + 1)), *((f"own{p}",) for p in made.processes)]
     rules = [(p, address, right, made.name_of(page), give) for p in made.processes for _, address, right, page, give in made.rules_of(p)]

@@ -11,38 +11,20 @@ that; the same in lower case is that page's page of the page table. The buffer h
 half of the buffer that the unit has not written, or none.
 """
 import sys
-from collections import deque
+from collections import deque, namedtuple
 from itertools import chain, combinations
-from typing import NamedTuple
 
 PAGES, TABLES = "FSAE", "fsae"
 WASTED = {"F": 1, "S": 2, "A": 2}  # instructions of the program that a miss sends to waste
 COST = {"early": 11, "F": 10, "f": 4, "S": 11, "s": 5, "A": 11, "a": 5, "copied": 2}
 REFILLS, DOUBLES, COPIES = {"early", "F", "S", "A"}, {"early", "f", "s", "a"}, {"early", "copied"}
 EXPECTED = {
-    "instructions": 61,
-    "tlbwr": 4,
-    "entries of page tables": 4,
-    "services after which it goes on": 5,
-    "steps of Random from the first tlbwr to the last": 46,
-    "steps of Random from the first tlbwr to the end": 53,
-}
-
-
-class State(NamedTuple):
-    branches: bool  # the unit has a slot
-    place: tuple  # ("begun",), ("slot",), ("word", ask, number), ("double miss", ask) or ("service",)
-    buffer: frozenset
-    touched: bool
-    dirty: frozenset  # of A and E, those that may be written
-    met: frozenset = frozenset()  # what of COST was met
-    written: frozenset = frozenset()  # what the unit has put into the buffer
-    spent: int = 0
-    refills: int = 0
-    tables: int = 0
-    services: int = 0
-    since: int = 0  # steps of Random since the first tlbwr
-    last: int = 0  # steps of Random from the first tlbwr to the last
+    "instructions": 61, "tlbwr": 4, "entries of page tables": 4, "services after which it goes on": 5,
+    "steps of Random from the first tlbwr to the last": 46, "steps of Random from the first tlbwr to the end": 53}
+# A state of a unit: whether it has a slot; its place, ("begun",), ("slot",), ("word", ask, number), ("double miss", ask) or ("service",); the buffer; whether the
+# process was touched; of A and E those that may be written; what of COST was met, and what the unit has put into the buffer; its instructions, refills, entries
+# of page tables and services; and the steps of Random since the first tlbwr, and from that to the last.
+State = namedtuple("State", "branches place buffer touched dirty met written spent refills tables services since last", defaults=(frozenset(), frozenset(), *[0] * 6))
 
 
 def subsets(letters):
@@ -60,18 +42,12 @@ def page_of(ask, touched):
 def is_far(s):
     """Whether the instructions so far are as many as the place allows, by what was met."""
     match s.place:
-        case ("begun",):
-            return s.spent <= cost(s.met)
-        case ("slot",):
-            return s.spent <= cost(s.met) + 1
-        case ("service",):
-            return s.spent <= cost(s.met) + 2
-        case ("double miss", ask):
-            return ask not in s.met and ask.lower() not in s.met and s.spent <= cost(s.met) + WASTED[ask] + 3
-        case ("word", ask, word) if word <= 6:
-            return ask not in s.met and word + 1 <= s.spent <= cost(s.met) + WASTED[ask] + word
-        case ("word", _, word):
-            return s.spent + 9 <= cost(s.met) + word
+        case ("begun",): return s.spent <= cost(s.met)
+        case ("slot",): return s.spent <= cost(s.met) + 1
+        case ("service",): return s.spent <= cost(s.met) + 2
+        case ("double miss", ask): return ask not in s.met and ask.lower() not in s.met and s.spent <= cost(s.met) + WASTED[ask] + 3
+        case ("word", ask, word) if word <= 6: return ask not in s.met and word + 1 <= s.spent <= cost(s.met) + WASTED[ask] + word
+        case ("word", _, word): return s.spent + 9 <= cost(s.met) + word
 
 
 def is_tallied(s):
@@ -82,9 +58,9 @@ def is_tallied(s):
     return kept and copied and few and (s.touched or not s.met) and s.since <= max(0, s.spent - 7) and is_far(s)
 
 
-def counted(s, place, **more):
+def counted(s, *place):
     """After one more instruction."""
-    return s._replace(place=place, spent=s.spent + 1, since=s.since + (s.refills > 0), **more)
+    return [s._replace(place=place, spent=s.spent + 1, since=s.since + (s.refills > 0))]
 
 
 def meets(s, ask, what):
@@ -100,14 +76,14 @@ def pushed_out(s, half):
 def after_instruction(s):
     """An instruction of the program."""
     if s.place == ("begun",) and "F" not in s.buffer:
-        return [counted(s, ("word", "F", 0))]
+        return counted(s, "word", "F", 0)
     if s.place == ("begun",) and s.branches:
-        return [counted(s, ("slot",))]
+        return counted(s, "slot")
     if s.place == ("slot",) and "S" not in s.buffer:
-        return [counted(s, ("word", "S", 0))]
+        return counted(s, "word", "S", 0)
     if page_of("A", s.touched) not in s.buffer:
-        return [counted(s, ("word", "A", 0))]
-    return [counted(s, ("service",))]  # (where it retires, the unit ends)
+        return counted(s, "word", "A", 0)
+    return counted(s, "service")  # (where it retires, the unit ends)
 
 
 def after_word(s):
@@ -115,11 +91,11 @@ def after_word(s):
     _, ask, word = s.place
     page = page_of(ask, s.touched)
     if word == 2 and page.lower() not in s.buffer:
-        return [counted(s, ("double miss", ask))]
+        return counted(s, "double miss", ask)
     if word == 8:
-        return [counted(s, ("begun",))]
+        return counted(s, "begun")
     if word != 6:
-        return [counted(s, ("word", ask, word + 1))]
+        return counted(s, "word", ask, word + 1)
     more = {"met": meets(s, ask, ask), "written": s.written | {page}, "touched": True}
     since = s.since + 1
     return [s._replace(place=("word", ask, 7), buffer=it | {page}, spent=s.spent + 1, since=since, refills=s.refills + 1, last=s.since, **more) for it in pushed_out(s, PAGES)]
@@ -138,9 +114,7 @@ def after_service(s):
 
 
 def nexts(s):
-    if s.place[0] in ("begun", "slot"):
-        return after_instruction(s)
-    return after_word(s) if s.place[0] == "word" else after_service(s)
+    return {"begun": after_instruction, "slot": after_instruction, "word": after_word}.get(s.place[0], after_service)(s)
 
 
 def begins():

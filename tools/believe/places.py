@@ -24,13 +24,9 @@ def given_twice(files):
     by_name = {}
     for file in files:
         for name, one in file.local.items() if not is_apart(file.path) else ():
-            by_name.setdefault(name, {}).setdefault(text_of(one), one)
+            text = " ".join(" ".join(line for _, line in one.text).split())  # (what a definition says, without its comments)
+            by_name.setdefault(name, {}).setdefault(text, one)
     return {name: list(ones.values()) for name, ones in sorted(by_name.items()) if len({one.path for one in ones.values()}) > 1}
-
-
-def text_of(one):
-    """What a definition says, without its comments."""
-    return " ".join(" ".join(line for _, line in one.text).split())
 
 
 def allowed(top):

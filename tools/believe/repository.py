@@ -42,17 +42,15 @@ class Repository:
         """A type or a constant of Rust by its path among what a crate declares: `fault.Fault`, `fault.Fault.TheVariants`, `told.TheConstants`."""
         types = [it for it in parts if it[:1].isupper() and not it.startswith("The")]
         modules = [it for it in parts if it[:1].islower()]
-        wanted = types[-1] if types else name
-        for file in self.code_of(crate, modules):
-            one = file.local.get(wanted)
-            if one and not (parts[-1] == "TheVariants" and name not in one.members):
-                return one
+        file = self.code_of(crate, modules)
+        one = file and file.local.get(types[-1] if types else name)
+        if one and not (parts[-1] == "TheVariants" and name not in one.members):
+            return one
         raise Unresolved(f"crates/{crate}/src declares no `{'.'.join([*parts, name])}`")
 
     def code_of(self, crate, modules):
-        """The file of a module of Rust."""
-        file = self.read(f"crates/{crate}/src/{'/'.join(modules) or 'lib'}.rt")
-        return [file] if file else []
+        """The file of a module of Rust, if there is one."""
+        return self.read(f"crates/{crate}/src/{'/'.join(modules) or 'lib'}.rt")
 
     def of_rust(self, path, file, number):
         """The definition of a path that a file of Rust brings in, or nothing where it is none of the repository."""
@@ -63,13 +61,13 @@ class Repository:
         crate = own if crate == "crate" else crate
         if crate not in self.crates:
             return None
-        for one in self.code_of(crate, parts[:-1]):
-            if parts[-1] in one.local:
-                return one.local[parts[-1]]
-            if parts[-1] in one.rust:  # passed on by `pub use`
-                inner = one.rust[parts[-1]]
-                known = inner.split("::")[0] in self.crates | {"crate", "super"}
-                return self.of_rust(inner if known else "::".join(["crate", *parts[:-1], inner]), one, number)
+        one = self.code_of(crate, parts[:-1])
+        if one and parts[-1] in one.local:
+            return one.local[parts[-1]]
+        if one and parts[-1] in one.rust:  # passed on by `pub use`
+            inner = one.rust[parts[-1]]
+            known = inner.split("::")[0] in self.crates | {"crate", "super"}
+            return self.of_rust(inner if known else "::".join(["crate", *parts[:-1], inner]), one, number)
         raise Unresolved(f"{file.path}:{number}: `{path}` leads nowhere")
 
     def rust_names(self, text, file, params=()):
@@ -95,28 +93,21 @@ class Repository:
             names = Names(self, file)
             if one.path.endswith(".antt"):
                 names.of_definition(one)
-            elif one.kind == "model":
-                names.walk(value_of(one), set())
-            elif one.kind == "trait":
-                self.of_trait(one, file, names)
+            elif one.kind == "model":  # the words of its value
+                value = [(number, re.sub(r"^\s*ghost Value = \{|\};\s*$", "", line)) for number, line in one.text if not line.startswith("impl")]
+                names.walk(tokens_of(value), set())
+            elif one.kind == "trait":  # the types and the clauses of its functions
+                for name in re.findall(r"\bfn (\w+)", "\n".join(line for _, line in one.text)):
+                    self.of_contract(Contract(file, name, one.text), None, names, one.members)
             elif one.kind == "macro_rules!":
                 names.found = {file.local[it].key: file.local[it] for _, line in one.text for it in re.findall(r"(\w+)!", line) if it in file.local}
-            else:
-                self.of_item(one, file, names)
+            else:  # a type or a constant
+                text = [(number, re.sub(r"^    \w+", "", line) if one.kind == "enum" else line) for number, line in one.text]
+                generic = re.search(rf"\b{one.name}<(.*?)>", " ".join(line for _, line in text))
+                names.found = self.rust_names(text, file, set(re.findall(r"(?:^|, )(?:const )?(\w+)", generic.group(1))) if generic else ())
             names.found.pop(one.key, None)
             self.named[one.key] = names
         return self.named[one.key]
-
-    def of_item(self, one, file, names):
-        """A type or a constant of Rust."""
-        text = [(number, re.sub(r"^    \w+", "", line) if one.kind == "enum" else line) for number, line in one.text]
-        generic = re.search(rf"\b{one.name}<(.*?)>", " ".join(line for _, line in text))
-        names.found = self.rust_names(text, file, set(re.findall(r"(?:^|, )(?:const )?(\w+)", generic.group(1))) if generic else ())
-
-    def of_trait(self, one, file, names):
-        """A trait: the types and the clauses of its functions."""
-        for name in re.findall(r"\bfn (\w+)", "\n".join(line for _, line in one.text)):
-            self.of_contract(Contract(file, name, one.text), None, names, one.members)
 
     def of_contract(self, contract, wanted, names, bound=frozenset()):
         """The types of a function, and those of its clauses that are wanted, or all."""
@@ -145,8 +136,3 @@ class Repository:
                 else:
                     order.append(one)
         return {it.key: it for it in reversed(order)}
-
-
-def value_of(one):
-    """The words of the value of a type's model."""
-    return tokens_of([(number, re.sub(r"^\s*ghost Value = \{|\};\s*$", "", line)) for number, line in one.text if not line.startswith("impl")])

@@ -6,6 +6,7 @@ only its head and that count.
 """
 import re
 from dataclasses import dataclass, field
+from itertools import accumulate
 
 DECLARED = re.compile(r"(?:(?:abbrev|unfoldable|pub|infix[lr]? \d+) )*(?:(record|data|module) )?(\S+)")
 FIRST_WORDS = {"abbrev", "unfoldable", "pub", "record", "data", "module", "infix", "infixl", "infixr"}
@@ -48,17 +49,6 @@ class Definition:
         return self.path, self.own[0]
 
 
-def without_comment(line):
-    """A line of an `.antt` file without the comment at its end."""
-    return re.sub(r'("(?:\\.|[^"\\])*")|(?:^|(?<=\s))--.*', lambda found: found.group(1) or "", line)
-
-
-def blanked(found):
-    """What stands in place of a comment, a text or a character of Rust: blanks, and quotes about a text."""
-    text = re.sub(r"[^\n]", " ", found.group())
-    return text if found.group().startswith("/") else f'"{text[1:-1]}"'
-
-
 def level(line):
     """How many brackets a line opens, less those that it closes."""
     return sum(line.count(it) for it in OPEN) - sum(line.count(it) for it in CLOSE)
@@ -70,17 +60,16 @@ def indent_of(line):
 
 def uses(lines):
     """The `use` lines, each on one line, and the numbers of all that they take up."""
-    found, numbers, at = [], set(), 0
-    while at < len(lines):
-        if re.match(r"\s*(pub )?(ghost )?use\b", lines[at]):
-            text = lines[at]
-            numbers.add(at + 1)
-            while level(text) > 0 and at + 1 < len(lines):
-                at += 1
-                text += " " + lines[at].strip()
-                numbers.add(at + 1)
-            found.append(text)
-        at += 1
+    found, numbers, open_ = [], set(), 0
+    for number, line in enumerate(lines, 1):
+        if open_ > 0:
+            found[-1] += " " + line.strip()
+        elif re.match(r"\s*(pub )?(ghost )?use\b", line):
+            found.append(line)
+        else:
+            continue
+        numbers.add(number)
+        open_ = level(found[-1])
     return found, numbers
 
 
@@ -106,24 +95,21 @@ class Specs:
     def __init__(self, path, text):
         self.path, self.imports, self.definitions = path, Imports(), []
         self.raw = text.split("\n")
-        bare = [without_comment(it) for it in self.raw]
+        bare = [re.sub(r'("(?:\\.|[^"\\])*")|(?:^|(?<=\s))--.*', lambda found: found.group(1) or "", it) for it in self.raw]  # without comments
         found, skipped = uses(bare)
         for it in found:
             self.imports.add(it)
         self.cut(bare, skipped)
         self.local = {}
         for it in self.definitions:
-            it.members = members_of(it)
             self.local[it.name] = it
+            if it.kind in ("record", "data"):  # its fields, or its constructors
+                head = next((k for k, (_, line) in enumerate(it.text) if re.search(r"\bwhere\s*$", line)), len(it.text))
+                it.members = {name for _, line in it.text[head + 1:] if (got := MEMBER.match(line)) for name in got[1].split()}
             if it.kind == "data":
                 self.local.update(dict.fromkeys(it.members, it))
 
-    def about(self):
-        """What the file is about: the first sentence of the comment at its head."""
-        return first_sentence(re.match(r"(?:--.*\n)*", "\n".join(self.raw) + "\n").group().replace("--", " "))
-
     def cut(self, bare, skipped):
-        """Cuts the file into its definitions."""
         comment, one, outer = [], None, None
         for number, line in enumerate(bare, 1):
             if number in skipped or re.match(r"(pub )?mod ", line) or not self.raw[number - 1].strip():
@@ -156,16 +142,11 @@ def begins(line, indent, one):
     return one is None or words[0] in FIRST_WORDS or len(words) > 1 and words[1] == ":" and words[0] != one.name
 
 
-def members_of(it):
-    """The fields of a record, or the constructors of a type."""
-    if it.kind not in ("record", "data"):
-        return set()
-    head = next((k for k, (_, line) in enumerate(it.text) if re.search(r"\bwhere\s*$", line)), len(it.text))
-    return {name for _, line in it.text[head + 1:] for got in [MEMBER.match(line)] if got for name in got.group(1).split()}
-
-
-def first_sentence(text):
-    return re.split(r"(?<=\.)\s", " ".join(text.split()), maxsplit=1)[0].strip()
+def about(file):
+    """What a file is about: the first sentence of the comment at its head."""
+    mark = "--" if file.path.endswith(".antt") else "//!"
+    head = re.match(rf"(?:{mark}.*\n)*", "\n".join(file.raw) + "\n")[0].replace(mark, " ")
+    return re.split(r"(?<=\.)\s", " ".join(head.split()), maxsplit=1)[0].strip()
 
 
 class Code:
@@ -173,21 +154,16 @@ class Code:
 
     def __init__(self, path, text):
         self.path, self.imports, self.rust, self.definitions = path, Imports(), {}, []
-        self.raw, self.lines = text.split("\n"), LITERAL.sub(blanked, text).split("\n")
+        blank = lambda it: re.sub(r"[^\n]", " ", it)  # noqa: E731  (what stands in place of a comment, a text or a character, with quotes about a text)
+        bare = LITERAL.sub(lambda it: blank(it[0]) if it[0].startswith("/") else f'"{blank(it[0][1:-1])}"', text)
+        self.raw, self.lines = text.split("\n"), bare.split("\n")
         for it in uses(self.lines)[0]:
             if "ghost " in it:
                 self.imports.add(it)
         for it in re.findall(r"^(?:pub(?:\(crate\))? )?use ([^;]+);", "\n".join(self.lines), flags=re.MULTILINE):
             self.rust.update(rust_uses(" ".join(it.split())))
-        for at, line in enumerate(self.lines):
-            got = ITEM.match(line)
-            if got:
-                self.definitions.append(self.item(at, *got.groups()))
+        self.definitions += [self.item(at, *got.groups()) for at, line in enumerate(self.lines) if (got := ITEM.match(line))]
         self.local = {it.name: it for it in self.definitions}
-
-    def about(self):
-        """What the file is about: the first sentence at its head."""
-        return first_sentence(re.match(r"(?://!.*\n)*", "\n".join(self.raw) + "\n").group().replace("//!", " "))
 
     def item(self, at, kind, name):
         """The type, trait, constant or macro that begins in a line."""
@@ -206,9 +182,7 @@ class Code:
 
     def end(self, at):
         """The last line of the item that begins in a line."""
-        depth = 0
-        for k in range(at, len(self.lines)):
-            depth += level(self.lines[k])
+        for k, depth in enumerate(accumulate(map(level, self.lines[at:])), at):
             if depth == 0 and re.search(r"[;}]\s*$", self.lines[k]):
                 return k
         raise Unresolved(f"{self.path}:{at + 1}: has no end")
@@ -231,13 +205,8 @@ def rust_uses(text):
     if not brace:
         whole, _, other = text.strip().partition(" as ")
         return {other or whole.split("::")[-1]: whole}
-    found, depth, part = {}, 0, ""
-    for c in rest[: rest.rindex("}")] + ",":
+    parts, depth = [""], 0
+    for c in rest[: rest.rindex("}")]:
         depth += (c == "{") - (c == "}")
-        if c == "," and depth == 0:
-            if part.strip():
-                found.update(rust_uses(path + part.strip()))
-            part = ""
-        else:
-            part += c
-    return found
+        parts.append("") if c == "," and depth == 0 else parts.append(parts.pop() + c)
+    return {name: whole for it in parts if it.strip() for name, whole in rust_uses(path + it.strip()).items()}

@@ -1,5 +1,6 @@
 """Reads which words of a text are bound in it, and which are names of definitions."""
 import re
+from itertools import accumulate
 
 from .texts import CLOSE, MEMBER, OPEN, Code, Unresolved, indent_of
 
@@ -22,16 +23,11 @@ class Names:
             self.signs["do"] = "◌>>=◌"
 
     def of_definition(self, one):
-        """Reads a definition."""
         bound = set()
         if one.outer:
             self.note(one.outer)
             bound = self.walk(tokens_of(one.outer.text)[1:], bound)
-        if one.kind in ("record", "data", "module"):
-            self.of_type(one, bound)
-        else:
-            self.of_function(one, bound)
-        return self
+        (self.of_type if one.kind in ("record", "data", "module") else self.of_function)(one, bound)
 
     def of_type(self, one, bound):
         """A record, whose fields are bound in the next ones; or a type with constructors."""
@@ -61,10 +57,8 @@ class Names:
                 self.walk(tokens[2:], scope)
                 continue
             above = above if inner else scope
-            depth, end = 0, 0
-            while tokens[end][0] != "=" or depth:
-                depth += (tokens[end][0] in OPEN) - (tokens[end][0] in CLOSE)
-                end += 1
+            depths = accumulate((it in OPEN) - (it in CLOSE) for it, _ in tokens)
+            end = next(k for k, ((it, _), depth) in enumerate(zip(tokens, depths)) if it == "=" and depth == 0)
             for it, number in tokens[:end]:
                 if it != one.name and it not in bound:
                     self.pattern(it, number, scope)
@@ -72,12 +66,8 @@ class Names:
 
     def pattern(self, it, number, scope):
         """A word of a pattern: a constructor is a name, and all else is bound."""
-        if it in OPEN + CLOSE + ",;" or it in SIGNS or it in self.signs or it[0] in '"0123456789':
-            return
-        if self.is_constructor(it):
-            self.lead(it, number)
-        else:
-            scope.add(it)
+        if it not in OPEN + CLOSE + ",;" and it not in SIGNS and it not in self.signs and it[0] not in '"0123456789':
+            self.lead(it, number) if self.is_constructor(it) else scope.add(it)
 
     def is_constructor(self, it):
         head, *rest = it.split(".")
@@ -108,9 +98,8 @@ class Names:
 
     def read(self, fields, number):
         """Notes fields that are read; a part of a pair has no name."""
-        for it in fields:
-            if it and not it.isdigit():
-                self.fields.setdefault(it, number)
+        for it in filter(lambda it: it and not it.isdigit(), fields):
+            self.fields.setdefault(it, number)
 
     def note(self, one):
         if one:
@@ -122,17 +111,14 @@ class Names:
             one = self.repository.find(path, name)
         except Unresolved as fault:
             raise Unresolved(f"{self.file.path}:{number}: {fault}") from fault
-        if one:
-            self.note(one)
-        else:
-            self.kit.add((path, name))
+        self.note(one)
+        self.kit |= set() if one else {(path, name)}
 
     def walk(self, tokens, bound):
         """Reads an expression in which these are bound, and returns what is bound after it."""
         return Walk(self, tokens, bound).scopes[0]
 
     def word(self, it, number, scope):
-        """A word of an expression."""
         if it[0] in '"0123456789' or it in ",;":
             return
         if it in self.signs:
@@ -164,24 +150,16 @@ class Walk:
             self.scopes[-1].add(self.later[0])
             self.later = None
         ahead = self.tokens[self.at + 1][0] if self.at + 1 < len(self.tokens) else ""
-        if it in OPEN:
-            self.open(it)
-        elif it in CLOSE:
-            self.close()
-        elif it == "|":
-            self.alternative()
-        elif it in ("λ", "∀"):
-            self.under()
-        elif it == "let":
-            self.let()
-        elif it == "in" and self.lets:
-            self.scopes[-1] |= self.lets.pop()
-        elif it == "=":
-            self.kinds[-1][1] -= self.kinds[-1][1] > 0
-        elif ahead == "←":
-            self.later = it, number
-        elif not (ahead == "=" and self.kinds[-1] == ["{", 0]):  # else it is a field that gets a value
-            self.names.word(it, number, self.scopes[-1])
+        match it:
+            case "(" | "{" | "[": self.open(it)
+            case ")" | "}" | "]": self.close()
+            case "|": self.alternative()
+            case "λ" | "∀": self.under()
+            case "let": self.let()
+            case "in" if self.lets: self.scopes[-1] |= self.lets.pop()
+            case "=": self.kinds[-1][1] -= self.kinds[-1][1] > 0
+            case _ if ahead == "←": self.later = it, number
+            case _ if ahead != "=" or self.kinds[-1] != ["{", 0]: self.names.word(it, number, self.scopes[-1])  # (else it is a field that gets a value)
 
     def open(self, it):
         """A bracket opens. What a group `(a b : T)` binds is bound after it."""
@@ -246,12 +224,8 @@ def tokens_of(text):
 
 def closing(tokens, at):
     """Where the bracket closes that opens there."""
-    depth = 0
-    for k in range(at, len(tokens)):
-        depth += (tokens[k][0] in OPEN) - (tokens[k][0] in CLOSE)
-        if depth == 0:
-            return k
-    return len(tokens)
+    depths = accumulate((it in OPEN) - (it in CLOSE) for it, _ in tokens[at:])
+    return next((k for k, depth in enumerate(depths, at) if depth == 0), len(tokens))
 
 
 def binders(tokens, at):

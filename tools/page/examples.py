@@ -29,12 +29,15 @@ def example(place, folder, is_bare, expected, words):
     """An example of the bare machine, or one that runs a policy, from the words of its row."""
     first, *more = words
     text, stem = (place / first).read_text("utf-8"), Path(first).stem
-    given, ticks, flags = ("", int(more[0]), []) if is_bare else (more[0], ticks_of(place / expected, int(more[1])), more[2:])
+    given, ticks, flags = ("", int(more[0]), []) if is_bare else (more[0], int(more[1]), more[2:])
+    if ticks >= MOST_TICKS and (time := re.search(rb"^time (\d+)$", (place / expected).read_bytes(), re.M)):
+        ticks = 10 ** len(time[1])
+    in_c = place / f"{stem}.c"
     sources = [first] if is_bare else [it for it in dict.fromkeys(re.findall(r'source = "([^"]+)"', text)) if (place / it).is_file()]
     return {
         "name": f"{folder}/{stem}".removeprefix("examples/"),
         "group": FOLDERS[folder],
-        "about": not is_bare and (told(place / "README.md").get(stem) or of_a_program(place / f"{stem}.c")) or of_a_comment(text),
+        "about": not is_bare and (told(place / "README.md").get(stem) or in_c.is_file() and of_a_comment(in_c.read_text("utf-8"), "//")) or of_a_comment(text),
         "command": "bare" if is_bare else "trace",
         "policy": "" if is_bare else text,
         "sources": {it: (place / it).read_text("utf-8") for it in sources},
@@ -62,21 +65,10 @@ def plain(text):
     return " ".join(text.replace("`", "").split())
 
 
-def of_a_program(path):
-    """The comment with which a program in C begins."""
-    return of_a_comment(path.read_text("utf-8"), "//") if path.is_file() else ""
-
-
 def of_a_comment(text, mark="#"):
     """The comment with which a text begins."""
     lines = re.match(rf"(?:{mark} .*\n)*", text)[0]
     return plain(re.sub(rf"^{mark} ", "", lines, flags=re.M))
-
-
-def ticks_of(expected, ticks):
-    """So many ticks as the row has; where that is without an end, more than the run took."""
-    time = re.search(rb"^time (\d+)$", expected.read_bytes(), re.M)
-    return ticks if ticks < MOST_TICKS or not time else 10 ** len(time[1])
 
 
 def script(top):

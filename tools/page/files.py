@@ -13,7 +13,6 @@ WORKER = ("host.js", "worker.js")
 
 
 def copied(page, to):
-    """Copies the hand-written files."""
     for it in sorted(page.iterdir()):
         if it.suffix in (".html", ".css", ".js"):
             shutil.copyfile(it, to / it.name)

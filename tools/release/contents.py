@@ -1,10 +1,14 @@
-"""What the archive holds besides the program: documents, examples without their answers, scripts, the web page."""
+"""The archive, whose bytes depend on nothing but its files, their names and one time; and what it holds besides the program: documents, examples without their answers,
+scripts, the web page."""
+import gzip
 import hashlib
+import io
 import re
-from pathlib import Path
+import tarfile
+from collections import namedtuple
+from pathlib import Path, PurePath
 
 from release import Refused
-from release.archive import File
 from release.tree import files_in
 
 OF_MAKERS = {"architecture.md", "DECISIONS.md", "figures.md", "gate.md", "log.md"}  # documents for those who work on the code
@@ -12,6 +16,7 @@ COMPARED = {".expected", ".told", ".run", ".cases", ".check"}  # how files end t
 ANSWERS = {"answers", "answers.md"}  # what answers to questions are called, folders and files
 SCRIPTS = ["elf_program.py", "elf_to_policy.py", "guest_files.py", "later_instructions.py"]  # what docs/c.md has a user run
 SUM_LINE = re.compile(r"([0-9a-f]{64})  (\S+)")
+File = namedtuple("File", "held runs", defaults=(False,))  # of the archive
 
 
 def documents(tree):
@@ -20,15 +25,10 @@ def documents(tree):
     return {it: (tree / it).read_text("utf-8") for it in ("README.md", *docs, "CHANGELOG.md", "LICENSE")}
 
 
-def is_handed_on(name):
-    """Whether a file of the examples goes along: not what the gate compares with, and no answer to a question of the labs or a course."""
-    return Path(name).suffix not in COMPARED and not ANSWERS & set(Path(name).parts)
-
-
 def examples(tree):
-    """The examples and the labs, without what the gate compares with and without the answers of the labs."""
+    """The examples and the labs, without what the gate compares with, and without any answer to a question of the labs or a course."""
     names, place = files_in(tree, "examples")
-    return {it: (place / it).read_bytes() for it in names if is_handed_on(it)}
+    return {it: (place / it).read_bytes() for it in names if Path(it).suffix not in COMPARED and not ANSWERS & {*Path(it).parts}}
 
 
 def page(folder, commit):
@@ -56,6 +56,14 @@ def contents(tree, texts):
     return files | {f"tools/{it}": File((tree / "tools" / it).read_bytes(), runs=it == "elf_to_policy.py") for it in SCRIPTS}
 
 
-def made(head, files):
-    """What the archive was made of, and the sum of each file, as `sha256sum -c` reads it."""
-    return "".join([*(f"# {it}\n" for it in head), *(f"{it.sum}  {path}\n" for path, it in sorted(files.items()))])
+def archive(folder, files, seconds):
+    """A folder with files as the bytes of a gzipped archive, its names in order, with the same owner and time for each."""
+    files = {f"{folder}/{name}": it for name, it in files.items()}
+    folders, out = {str(up) for name in files for up in PurePath(name).parents} - {"."}, io.BytesIO()
+    with gzip.GzipFile("", "wb", 9, out, mtime=0) as packed, tarfile.open(fileobj=packed, mode="w", format=tarfile.USTAR_FORMAT) as to:
+        for name in sorted(files.keys() | folders):
+            it, head = files.get(name), tarfile.TarInfo(name)
+            head.mtime, head.mode = seconds, 0o644 if it and not it.runs else 0o755
+            head.type, head.size = (tarfile.REGTYPE, len(it.held)) if it else (tarfile.DIRTYPE, 0)
+            to.addfile(head, it and io.BytesIO(it.held))
+    return out.getvalue()

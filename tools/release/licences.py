@@ -17,12 +17,6 @@ def kit_here():
     return Path(first).resolve().parent, line
 
 
-def crates_of(tree):
-    """What each crate of the repository uses, by its name."""
-    lines = [it.partition(":") for it in (tree / "crates.txt").read_text("utf-8").splitlines() if it.strip() and not it.startswith("#")]
-    return {name.split()[0]: uses.split() for name, _, uses in lines}
-
-
 def used_by(kit, name):
     """The crates of the kit that one of them uses."""
     try:
@@ -33,7 +27,8 @@ def used_by(kit, name):
 
 def linked(tree, kit, program):
     """The crates that a program is made of: those of the repository, and those of the kit."""
-    uses, found, wait = crates_of(tree), {}, [program, "std"]
+    lines = [it.partition(":") for it in (tree / "crates.txt").read_text("utf-8").splitlines() if it.strip() and not it.startswith("#")]
+    uses, found, wait = {name.split()[0]: its.split() for name, _, its in lines}, {}, [program, "std"]
     while wait:
         name = wait.pop()
         if name not in found:
@@ -42,22 +37,14 @@ def linked(tree, kit, program):
     return sorted(it for it in found if found[it]), sorted(it for it in found if not found[it])
 
 
-def head_of(text):
-    """The comment in which a source begins, without its signs."""
-    return re.match(r"(?://.*\n)*", text)[0].replace("// ", "").replace("//", "")
-
-
-def in_sources(kit, name):
-    """The licences at the heads of a crate's sources, by the names of files for them."""
-    folder = kit / "rattle" / name / "src"
-    heads = {"-".join(it.relative_to(folder).with_suffix("").parts): head_of(it.read_text("utf-8", errors="replace")) for it in sorted(folder.rglob("*.rt"))}
-    return {f"LICENSE-of-{it}": text.encode() for it, text in heads.items() if "ermission is hereby granted" in text}
-
-
 def texts_of(kit, name):
     """The licences of a crate of the kit, by the names of their files: those beside it, else those at the heads of its sources."""
-    beside = sorted(it for it in (kit / "rattle" / name).glob("*") if it.name.startswith(NAMES))
-    return {it.name: it.read_bytes() for it in beside} or in_sources(kit, name)
+    if beside := sorted(it for it in (kit / "rattle" / name).glob("*") if it.name.startswith(NAMES)):
+        return {it.name: it.read_bytes() for it in beside}
+    folder = kit / "rattle" / name / "src"
+    heads = {it: re.match(r"(?://.*\n)*", it.read_text("utf-8", errors="replace"))[0] for it in sorted(folder.rglob("*.rt"))}
+    return {f"LICENSE-of-{'-'.join(it.relative_to(folder).with_suffix('').parts)}": text.replace("// ", "").replace("//", "").encode()
+            for it, text in heads.items() if "ermission is hereby granted" in text}
 
 
 def licences(kit, line, names):

@@ -38,24 +38,19 @@ def inline(text):
     return re.sub(r"^(?=[.'])", r"\\&", "".join(bold))
 
 
-def joined(lines):
-    return inline(" ".join(it.strip() for it in lines))
-
-
 def shown(lines):
     """Lines as they stand, a little to the right."""
     return [".PP", ".RS 4", ".nf", *(literal(it) for it in lines), ".fi", ".RE"]
 
 
+def joined(lines):
+    return inline(" ".join(it.strip() for it in lines))
+
+
 def items(lines):
     """A list, each of whose items begins with a dash."""
-    found = []
-    for line in lines:
-        if line.startswith("- "):
-            found.append([line[2:]])
-        else:
-            found[-1].append(line)
-    return [it for item in found for it in (".IP \\(bu 2", joined(item))]
+    found = re.split(r"^- ", "\n".join(lines), flags=re.MULTILINE)[1:]
+    return [it for item in found for it in (".IP \\(bu 2", joined(item.splitlines()))]
 
 
 def cells(line):
@@ -74,11 +69,8 @@ def table(lines):
 
 def kind_of(line):
     """Which form of Markdown a line is."""
-    if not line.strip():
-        return "blank"
-    if line.startswith("    "):
-        return "shown"
-    return "table" if line.startswith("|") else "heading" if line.startswith("#") else "text"
+    forms = {"blank": r"\s*$", "shown": "    ", "table": r"\|", "heading": "#", "text": ""}
+    return next(kind for kind, form in forms.items() if re.match(form, line))
 
 
 def blocks(text):
@@ -117,12 +109,6 @@ def section(documents, path, heading):
     return found[1]
 
 
-def words_of(line):
-    """A line of the program's help that explains a word: the word, and what is said of it."""
-    word, _, said = line.strip().partition("  ")
-    return [".TP", f"\\fB{literal(word)}\\fP", plain(said.strip())]
-
-
 def help_lines(text):
     """What the program says of a command, after its first line: the words that it takes, and what follows as it stands."""
     made, rest, part = [], [], False
@@ -130,7 +116,8 @@ def help_lines(text):
         if line in PARTS:
             part = True
         elif part and line.startswith("  ") and not rest:
-            made += words_of(line)
+            word, _, about = line.strip().partition("  ")
+            made += [".TP", f"\\fB{literal(word)}\\fP", plain(about.strip())]
         elif line.startswith("Usage: "):
             made += [".PP", f"\\fB{literal(line.removeprefix('Usage: '))}\\fP"]
         elif line.strip() or rest:
@@ -149,27 +136,13 @@ def commands(helps):
     return made
 
 
-def synopsis(helps):
-    """How each command is written."""
-    found = [re.search(r"^Usage: dsmon (.*)$", text, re.MULTILINE) for name, text in helps.items() if name]
-    return [line for it in found if it for line in (".br", f".B dsmon {literal(it[1])}")][1:]
-
-
 def manual(helps, documents, version, day):
     """The manual page as a text. `helps` has what the program says of itself, by the names of its commands, and '' for all of it."""
-    about = helps[""].splitlines()[0]
-    lines = [f'.TH DSMON 1 "{day}" "dsmon {version}"', ".SH NAME", f"dsmon \\- {plain(about[0].lower() + about[1:])}", ".SH SYNOPSIS", *synopsis(helps)]
+    about, usages = helps[""].splitlines()[0], [re.search(r"^Usage: dsmon (.*)$", text, re.MULTILINE) for name, text in helps.items() if name]
+    lines = [f'.TH DSMON 1 "{day}" "dsmon {version}"', ".SH NAME", f"dsmon \\- {plain(about[0].lower() + about[1:])}", ".SH SYNOPSIS"]
+    lines += [line for it in usages if it for line in (".br", f".B dsmon {literal(it[1])}")][1:]
     for title, path, heading in SECTIONS:
         lines += [f".SH {title}", *(formatted(section(documents, path, heading)) if path else commands(helps))]
     lines += [".SH SEE ALSO", "These documents lie beside the program:", *(line for path in documents for line in (".br", f"\\fI{literal(path)}\\fP"))]
-    return "\n".join(without_doubles(lines)) + "\n"
-
-
-def without_doubles(lines):
-    """The lines without a `.PP` where a heading has begun a paragraph already, or nothing follows."""
-    kept = []
-    for line in lines:
-        if line == ".PP" and kept and kept[-1].startswith((".SH", ".SS", ".PP")):
-            continue
-        kept.append(line)
-    return kept
+    doubled = [line == ".PP" and before.startswith((".SH", ".SS", ".PP")) for before, line in zip(["", *lines], lines)]  # a paragraph that has begun already
+    return "\n".join(line for line, is_double in zip(lines, doubled) if not is_double) + "\n"

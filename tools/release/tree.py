@@ -2,23 +2,13 @@
 import re
 import subprocess
 import time
-from dataclasses import dataclass
+from collections import namedtuple
 
 from release import Refused
 
 GATE, PROOFS = [".ci/run"], ["rt", "ci"]
 COUNTS = re.compile(r"^\d+ (?:passed, (\d+) failed|refused, (\d+) not refused).*$", re.MULTILINE)
-
-
-@dataclass(frozen=True)
-class Commit:
-    """A commit: its forty digits, and its time in seconds."""
-    name: str
-    seconds: int
-
-    @property
-    def day(self):
-        return time.strftime("%Y-%m-%d", time.gmtime(self.seconds))
+Commit = namedtuple("Commit", "name seconds day")  # a commit: its forty digits, and its time
 
 
 def git(top, *words):
@@ -39,7 +29,7 @@ def commit_of(top):
     """The commit of a tree that has nothing else."""
     check_clean(top, "the tree")
     name, seconds = git(top, "log", "-1", "--format=%H %ct").split()
-    return Commit(name, int(seconds))
+    return Commit(name, int(seconds), time.strftime("%Y-%m-%d", time.gmtime(int(seconds))))
 
 
 def cloned(top, commit, to):
