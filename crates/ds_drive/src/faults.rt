@@ -2,7 +2,7 @@
 ghost use Rattle.std.specs.Prelude.{◌≡◌, ◌++◌, IfOk, OnOk, OnErr, option_map};
 ghost use Rattle.std.specs.Io.KnownBytes.{Appends};
 ghost use Rattle.ds_drive.specs.Told.{at_end, caret_below, fault_head, fault_name, fault_shown_in, label_told, mending_of, pass, plain_place, reason_after, told_below, fault_line, told_lines, wrong_place};
-ghost use Rattle.ds_drive.specs.Inner.Told.{passed_in};
+ghost use Rattle.ds_drive.specs.Inner.Told.{passed_in, told_words};
 ghost use Rattle.ds_drive.specs.Inner.Listening.{is_unwritten};
 ghost use Rattle.ds_drive.specs.declared.faults.Untold.TheVariants as variants;
 ghost use Rattle.ds_text.specs.Sent.{AppendsPart, IsAskedOnce};
@@ -131,6 +131,7 @@ fn push_told<'a, 's>(
     ensures passed { passed_in reasons.new ≡ pass (passed_in reasons.old) fault.now }
 {
     let reason = reasons.reason(*fault);
+    set_words(words, reason)?;
     push_head(sheet, wording, fault)?;
     push_decimal(sheet, u64::from(fault.line()))?;
     push_reason_line(sheet, words, reason)?;
@@ -139,19 +140,30 @@ fn push_told<'a, 's>(
     push_mending_of(sheet, words, reason, fault)
 }
 
-/// Adds what stands at the end of a fault's line: the first line of its reason, where it has one.
+/// Leaves the words of a reason alone; none where there is no reason.
+fn set_words<'s>(words: &mut Vec<u8>, reason: Option<FaultReason<'s>>) -> Result<(), AllocError>
+    ensures { OnOk result (words.new.items ≡ told_words (option_map plain_fault reason.entry)) }
+{
+    words.clear();
+    match reason {
+        Some(reason) => push_reason(words, reason),
+        None => Ok(()),
+    }
+}
+
+/// Adds what stands at the end of a fault's line: the first line of the words of its reason, where
+/// it has one.
 fn push_reason_line<'s>(
     sheet: &mut Vec<u8>,
-    words: &mut Vec<u8>,
+    words: &[u8],
     reason: Option<FaultReason<'s>>,
 ) -> Result<(), AllocError>
+    requires { words.now ≡ told_words (option_map plain_fault reason) }
     ensures { OnOk result (sheet.new.items ≡ sheet.old.items
         ++ at_end (option_map plain_fault reason.entry)) }
 {
     match reason {
-        Some(reason) => {
-            words.clear();
-            push_reason(words, reason)?;
+        Some(_) => {
             sheet.extend_from_slice(b": ")?;
             sheet.extend_from_slice(first_line(words).0)
         }
@@ -159,23 +171,20 @@ fn push_reason_line<'s>(
     }
 }
 
-/// Adds how a fault is mended: what its reason says after the first line, or the words of its
+/// Adds how a fault is mended: the words of its reason after their first line, or those of its
 /// number.
 fn push_mending_of<'s>(
     sheet: &mut Vec<u8>,
-    words: &mut Vec<u8>,
+    words: &[u8],
     reason: Option<FaultReason<'s>>,
     fault: &SourceFault,
 ) -> Result<(), AllocError>
+    requires { words.now ≡ told_words (option_map plain_fault reason) }
     ensures { OnOk result (sheet.new.items ≡ sheet.old.items
         ++ mending_of (option_map plain_fault reason.entry) fault.now) }
 {
     match reason {
-        Some(reason) => {
-            words.clear();
-            push_reason(words, reason)?;
-            sheet.extend_from_slice(first_line(words).1)
-        }
+        Some(_) => sheet.extend_from_slice(first_line(words).1),
         None => push_mending(sheet, fault.number()),
     }
 }
