@@ -6,3 +6,4 @@ pub mod Lates
 pub mod Runs
 pub mod Turns
 pub mod Places
+pub mod Untils

@@ -6,3 +6,4 @@ pub mod Operations
 pub mod Placed
 pub mod Ride
 pub mod Run
+pub mod Stops

@@ -26,7 +26,7 @@ pub struct Ahead {
 impl Ahead {
     /// So many steps, and an exception in the next.
     #[inline(always)]
-    fn stopped(steps: u32, code: ExceptionCode) -> Ahead
+    pub(crate) fn stopped(steps: u32, code: ExceptionCode) -> Ahead
         ensures { result ≡ record { steps = steps; raised = Some code } }
     {
         let raised = Some(code);
@@ -35,7 +35,7 @@ impl Ahead {
 
     /// So many steps, none of which entered an exception.
     #[inline(always)]
-    fn calm(steps: u32) -> Ahead
+    pub(crate) fn calm(steps: u32) -> Ahead
         ensures { result ≡ record { steps = steps; raised = None } }
     {
         let raised = None;

@@ -14,9 +14,13 @@ mod operations;
 mod position;
 mod ride;
 mod run;
+mod stops;
 mod stretch;
 mod turn;
+mod until;
 
 pub use ahead::{Ahead, go_past_ride, run_ahead};
 pub use next::Next;
 pub use ride::Ride;
+pub use stops::Stops;
+pub use until::run_ahead_until;

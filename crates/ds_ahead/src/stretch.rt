@@ -37,7 +37,7 @@ struct Walked {
 
 /// The operation at a position, where its page is known.
 #[inline(always)]
-fn operation_at<L: Lookaside>(
+pub(crate) fn operation_at<L: Lookaside>(
     core: &Core<L>,
     at: &Position,
     bus: &mut Bus,

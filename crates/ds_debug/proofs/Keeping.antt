@@ -22,7 +22,7 @@ use Rattle.ds_debug.specs.Watches.{all_seen}
 use Rattle.ds_debug.specs.declared.places.Place.{Place}
 use Rattle.ds_debug.specs.declared.places.Sought.{Sought}
 use Rattle.ds_debug.proofs.Returning.{reached_on, within_later}
-use Rattle.ds_debug.proofs.Turning.{by_turns, turns_later, turns_within}
+use Rattle.ds_debug.proofs.Turning.{by_turns_each, each_same, turns_later, turns_within}
 
 module _ (i : RunInputs) (n : ℕ) (h : Held) (b : IsBeginning i n h) where
   pub begins_whole : h.kept.state.owed ≡ None
@@ -55,7 +55,9 @@ kept_turns : (i : RunInputs) (n : ℕ) (h : Held) (k : IsKept i n h) → (path :
 kept_turns i n h k =
     let r = k.reached in
     let sound : IsSound r.start = record { state = r.begins.stands.0; stands = r.begins.stands.2 } in
-    by_turns r.start h sound (begins_whole i n r.start r.begins) (begins_spent i n r.start r.begins) r.path k.whole k.spent
+    let whole : r.start.kept.state.owed ≡ None = begins_whole i n r.start r.begins in
+    let w = by_turns_each (λ h. h ≡ h) r.start h sound whole (begins_spent i n r.start r.begins) r.path (each_same r.path.path) k.whole k.spent in
+    (w.0, w.1)
 
 -- turns after turns
 turns_join : (n : ℕ) (old : Held) (first : List Held) (between : Held) (second : List Held) (new : Held) → Turns n old first between → Turns n between second new → Turns n old (second ++ first) new

@@ -4,6 +4,8 @@ pub mod Going
 pub mod Returning
 pub mod Turning
 pub mod Keeping
+pub mod Ended
+pub mod Exited
 pub mod Leaping
 pub mod Acting
 pub mod Watching

@@ -17,7 +17,7 @@ use Rattle.ds_debug.specs.Forward.{IsTurn}
 use Rattle.ds_debug.specs.Goals.{Goal, goal_with}
 use Rattle.ds_debug.specs.Inputs.{IsAt, RunInputs}
 use Rattle.ds_debug.specs.Inner.Inputs.{IsReached}
-use Rattle.ds_debug.specs.Places.{Finds, HasFound, began_at, earlier, or_else, place_after}
+use Rattle.ds_debug.specs.Places.{HasFound, began_at, earlier, or_else, place_after}
 use Rattle.ds_debug.specs.Resumes.{asked_of, goal_of}
 use Rattle.ds_debug.specs.Sessions.{SessionState, named_or}
 use Rattle.ds_gdb.specs.Stops.{stop_text}
@@ -69,11 +69,6 @@ reached_at i n time h early a = record {
 -- a run to an earlier time is one within a later time
 pub within_later : (k n : ℕ) → k ≤ n → (old new : Held) → RunsWithin k old new → RunsWithin n old new
 within_later k n le old new r = within_join k n le old old new (within_start n old) r
-
--- the same is found up to the same time
-pub finds_alike : (s : Sought) (g k : Goal) (until time : ℕ) (place : Option Place) (old new : Held) → g ≡ k → until ≡ time → Finds s g until place old new → Finds s k time place old new
-finds_alike s g k until time place old new same is f =
-    subst (λ (t : ℕ). Finds s k t place old new) is (subst (λ (x : Goal). Finds s x until place old new) same f)
 
 -- goals with the same actions, breakpoints and watches
 pub goals_alike : (a b : List (Option Action)) (x y : List Breakpoint) (v w : List Watchpoint) → a ≡ b → x ≡ y → v ≡ w → goal_with a x v ≡ goal_with b y w

@@ -23,6 +23,7 @@ use Rattle.ds_refinement.proofs.RunSteps.{goes_alike, to_end, within_before, wit
 use Rattle.ds_station.proofs.Headlines.{owed_stands, time_stands}
 use Rattle.ds_station.proofs.InPieces.{no_steps, to_within, within_join}
 use Rattle.ds_debug.specs.Forward.{IsTurn}
+use Rattle.ds_debug.specs.Inner.Leaps.{AtRest, Each}
 use Rattle.ds_debug.specs.Places.{Turns}
 use Rattle.ds_debug.proofs.Going.{time_over}
 
@@ -45,18 +46,20 @@ InTurn last h =
     ⊎ (((h.kept.state.owed ≡ None) × (h.kept.state.time ≡ last.kept.state.time) × (0 < h.own.spent))
     ⊎ (IsSome h.kept.state.owed × (last.kept.state.time < h.kept.state.time)))
 
--- by turns to the beginning of one, in which it stands
-pub record IsTurning (start last h : Held) : Type 0 where
+-- by turns, each from where R holds, to the beginning of one, in which it stands
+pub record IsTurning (R : Held → Type 0) (start last h : Held) : Type 0 where
   path : List Held
   turns : Turns last.kept.state.time start path last
   within : RunsWithin (last.kept.state.time + 1) last h
   steps : RealPath last h
   sound : IsSound h
   stands : InTurn last h
+  each : Each R path
+  known : ((h ≡ last) × (h.kept.state.owed ≡ None) × (h.own.spent ≡ 0)) ⊎ R last
 
 -- and by some turns
-abbrev Turning : Held → Held → Type 0
-Turning start h = (last : Held) × IsTurning start last h
+abbrev Turning : (Held → Type 0) → Held → Held → Type 0
+Turning R start h = (last : Held) × IsTurning R start last h
 
 -- where nothing of a unit is counted, no service waits
 unserved_by : (queue : List ℕ) (c : CoreState) (own : Own) (k : Kept) (m : State) → CountedBy queue c own k m → RunningBy queue c k m → own.spent ≡ 0 → is_user c.system ≡ true
@@ -99,7 +102,14 @@ going false early over e f = rw (e, f) refl
 in_time : (t k n : ℕ) → t ≡ k → k ≡ n → nat_lt t (n + 1) ≡ true
 in_time t k n is same = grind (arith, nat_tests)
 
-module _ (start last old new : Held) (w : IsTurning start last old) where
+module _ (R : Held → Type 0) (start last old new : Held) (w : IsTurning R start last old) (rests : AtRest R old) where
+  last_known : R last
+  last_known = by w.known
+    where
+      by : ((old ≡ last) × (old.kept.state.owed ≡ None) × (old.own.spent ≡ 0)) ⊎ R last → R last
+      by (inl begun) = subst R begun.0 (rests w.sound begun.1 begun.2)
+      by (inr known) = known
+
   abbrev m : State
   m = w.sound.state
 
@@ -110,14 +120,14 @@ module _ (start last old new : Held) (w : IsTurning start last old) where
   sound kind f = let t = f.follows m k in record { state = t.0; stands = t.2 }
 
   -- the turn goes on
-  goes : (kind : Step) → Follows kind old new → Moves kind old new → IsReal old new → RunsWithin (last.kept.state.time + 1) last new → InTurn last new → Turning start new
+  goes : (kind : Step) → Follows kind old new → Moves kind old new → IsReal old new → RunsWithin (last.kept.state.time + 1) last new → InTurn last new → Turning R start new
   goes kind f moves real within stands = (
     last,
-    record { path = w.path; turns = w.turns; within = within; steps = path_join last old new w.steps (step_path kind old new f moves real); sound = sound kind f; stands = stands },
+    record { path = w.path; turns = w.turns; within = within; steps = path_join last old new w.steps (step_path kind old new f moves real); sound = sound kind f; stands = stands; each = w.each; known = inr last_known },
   )
 
   -- its boundary ends it
-  ends : Follows Boundary old new → Moves Boundary old new → IsReal old new → RunsWithin (last.kept.state.time + 1) last new → last.kept.state.time < new.kept.state.time → Turning start new
+  ends : Follows Boundary old new → Moves Boundary old new → IsReal old new → RunsWithin (last.kept.state.time + 1) last new → last.kept.state.time < new.kept.state.time → Turning R start new
   ends f moves real within later =
       let turn : IsTurn new.kept.state.time last new = record {
         early = later;
@@ -133,6 +143,8 @@ module _ (start last old new : Held) (w : IsTurning start last old) where
           steps = no_steps new;
           sound = sound Boundary f;
           stands = inl (refl, moves.0, moves.1);
+          each = (last_known, w.each);
+          known = inl (refl, moves.0, moves.1);
         },
       )
 
@@ -143,13 +155,13 @@ module _ (start last old new : Held) (w : IsTurning start last old) where
       sym (goes_alike (last.kept.state.time + 1) old m k)
       ∙ going (is_some m.owed) (nat_lt m.time (last.kept.state.time + 1)) (is_over m) (in_time m.time old.kept.state.time last.kept.state.time (time_stands old m k) same) step.2
 
-  idles : Follows Boundary old new → Moves Boundary old new → IsReal old new → old.kept.state.owed ≡ None → Turning start new
+  idles : Follows Boundary old new → Moves Boundary old new → IsReal old new → old.kept.state.owed ≡ None → Turning R start new
   idles f moves real none =
       let same : old.kept.state.time ≡ last.kept.state.time = early_in last old w.stands none in
       let one : truth (not (is_some old.kept.state.owed)) ≡ 1 = ap (λ (o : Option Turn). truth (not (is_some o))) none in
       ends f moves real (within_step Boundary (last.kept.state.time + 1) last old new w.within (idle_goes (f.follows m k).0 none same (f.follows m k).1) f) (omega (arith, same, one, moves.2))
 
-  bounds : Follows Boundary old new → Moves Boundary old new → IsReal old new → InTurn last old → Turning start new
+  bounds : Follows Boundary old new → Moves Boundary old new → IsReal old new → InTurn last old → Turning R start new
   bounds f moves real (inl begun) = idles f moves real begun.1
   bounds f moves real (inr (inl inside)) = idles f moves real inside.0
   bounds f moves real (inr (inr owing)) = ends f moves real (within_before Boundary (last.kept.state.time + 1) last old new w.within (inl owing.0) f) (omega (arith, owing.1, moves.2))
@@ -158,7 +170,7 @@ module _ (start last old new : Held) (w : IsTurning start last old) where
   some_ready some = λ none. some (k.agrees.kept.ready ∙ none)
 
   -- by one step more
-  one_step : (kind : Step) → Follows kind old new → Moves kind old new → IsReal old new → Turning start new
+  one_step : (kind : Step) → Follows kind old new → Moves kind old new → IsReal old new → Turning R start new
   one_step Inside f moves real =
       let early : old.kept.state.time < last.kept.state.time + 1 = omega (arith, early_in last old w.stands moves.0) in
       goes Inside f moves real (within_before Inside (last.kept.state.time + 1) last old new w.within (inr (some_ready (f.follows m k).1.0, early)) f) (inside_on last old new m k w.stands moves)
@@ -167,24 +179,39 @@ module _ (start last old new : Held) (w : IsTurning start last old) where
       let early : old.kept.state.time < last.kept.state.time + 1 = omega (arith, same) in
       goes Unit f moves real (within_before Unit (last.kept.state.time + 1) last old new w.within (inr (some_ready (f.follows m k).1.1, early)) f) (inr (inr (moves.1, omega (arith, same, moves.2, ticks_more old.core.slot))))
   one_step Boundary f moves real = bounds f moves real w.stands
-  one_step Over f moves real = subst (λ (h : Held). Turning start h) (sym moves) (last, w)
+  one_step Over f moves real = subst (λ (h : Held). Turning R start h) (sym moves) (last, w)
 
 -- so it stands after any steps
-through : (start : Held) → IsSound start → start.kept.state.owed ≡ None → start.own.spent ≡ 0 → (path : List Held) (new : Held) → Through start path new → Turning start new
-through start s whole spent [] new t =
-    let begun : IsTurning start start start = record { path = []; turns = refl; within = within_start (start.kept.state.time + 1) start; steps = no_steps start; sound = s; stands = inl (refl, whole, spent) } in
-    subst (λ (h : Held). Turning start h) (sym t) (start, begun)
-through start s whole spent (last ∷ before) new t =
-    let w : Turning start last = through start s whole spent before last t.1 in
-    one_step start w.0 last new w.1 t.0.0 t.0.1 t.0.2 t.0.3
+through : (R : Held → Type 0) (start : Held) → IsSound start → start.kept.state.owed ≡ None → start.own.spent ≡ 0 → (path : List Held) (new : Held) → Through start path new → Each (AtRest R) path → Turning R start new
+through R start s whole spent [] new t rests =
+    let begun : IsTurning R start start start = record {
+      path = [];
+      turns = refl;
+      within = within_start (start.kept.state.time + 1) start;
+      steps = no_steps start;
+      sound = s;
+      stands = inl (refl, whole, spent);
+      each = tt;
+      known = inl (refl, whole, spent);
+    } in
+    subst (λ (h : Held). Turning R start h) (sym t) (start, begun)
+through R start s whole spent (last ∷ before) new t rests =
+    let w : Turning R start last = through R start s whole spent before last t.1 rests.1 in
+    one_step R start w.0 last new w.1 rests.0 t.0.0 t.0.1 t.0.2 t.0.3
 
-between : (start last new : Held) → IsTurning start last new → InTurn last new → new.kept.state.owed ≡ None → new.own.spent ≡ 0 → (path : List Held) × Turns new.kept.state.time start path new
-between start last new w (inl begun) whole spent = (w.path, subst (λ (h : Held). Turns h.kept.state.time start w.path h) (sym begun.0) w.turns)
-between start last new w (inr (inl inside)) whole spent = absurd (omega (arith, inside.2, spent))
-between start last new w (inr (inr owing)) whole spent = let no : true ≡ false = sym owing.0 ∙ ap is_some whole in absurd (cc)
+between : (R : Held → Type 0) (start last new : Held) → IsTurning R start last new → InTurn last new → new.kept.state.owed ≡ None → new.own.spent ≡ 0 → (path : List Held) × Turns new.kept.state.time start path new × Each R path
+between R start last new w (inl begun) whole spent = (w.path, subst (λ (h : Held). Turns h.kept.state.time start w.path h) (sym begun.0) w.turns, w.each)
+between R start last new w (inr (inl inside)) whole spent = absurd (omega (arith, inside.2, spent))
+between R start last new w (inr (inr owing)) whole spent = let no : true ≡ false = sym owing.0 ∙ ap is_some whole in absurd (cc)
 
--- and between two turns these steps are turns
-pub by_turns : (start new : Held) → IsSound start → start.kept.state.owed ≡ None → start.own.spent ≡ 0 → RealPath start new → new.kept.state.owed ≡ None → new.own.spent ≡ 0 → (path : List Held) × Turns new.kept.state.time start path new
-by_turns start new s whole spent r ends rests =
-    let w : Turning start new = through start s whole spent r.path new r.through in
-    between start w.0 new w.1 w.1.stands ends rests
+-- and between two turns these steps are turns, each from where R holds, if it holds wherever they rest
+pub by_turns_each : (R : Held → Type 0) (start new : Held) → IsSound start → start.kept.state.owed ≡ None → start.own.spent ≡ 0 → (r : RealPath start new) → Each (AtRest R) r.path → new.kept.state.owed ≡ None → new.own.spent ≡ 0
+    → (path : List Held) × Turns new.kept.state.time start path new × Each R path
+by_turns_each R start new s whole spent r rests ends stays =
+    let w : Turning R start new = through R start s whole spent r.path new r.through rests in
+    between R start w.0 new w.1 w.1.stands ends stays
+
+-- whatever rests is itself
+pub each_same : (path : List Held) → Each (AtRest (λ h. h ≡ h)) path
+each_same [] = tt
+each_same (h ∷ rest) = (λ sound whole spent. refl, each_same rest)

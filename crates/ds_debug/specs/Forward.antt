@@ -1,7 +1,6 @@
 -- How a run goes forward, turn by turn, to where something stops.
 use Rattle.std.specs.Prelude.{◌≡◌, ◌<◌, ◌≤◌, ◌⊎◌, ℕ, ◌+◌, true, false, List, [], ◌∷◌, length, Option, Some, None}
 use Rattle.ds_pagemap.specs.Machine.{first}
-use Rattle.ds_pagemap.specs.Run.{is_over}
 use Rattle.ds_refinement.specs.Held.{Held}
 use Rattle.ds_refinement.specs.Real.{RealPath}
 use Rattle.ds_refinement.specs.Runs.{RunsTo, held_goes_on}
@@ -21,10 +20,10 @@ pub record IsTurn (n : ℕ) (old new : Held) : Type 0 where
 abbrev pub stop_between : Goal → Held → Held → Option Stop
 stop_between g old new = stop_after g.aim (first old.kept.state.ready) (length old.kept.log) (all_seen old g.watchpoints) new
 
--- a turn that is not the exit of the last process: that does not come next, or somebody has not ended after it
+-- a turn that is not the exit of the last process
 pub record IsOnward (n : ℕ) (old new : Held) : Type 0 where
   pub turn : IsTurn n old new
-  pub stays : (exits_next old ≡ false) ⊎ (is_over new.kept.state ≡ false)
+  pub stays : exits_next old ≡ false
 
 -- by these turns, the newest first, after none of which something stops
 abbrev pub Passes : Goal → ℕ → Held → List Held → Held → Type 0

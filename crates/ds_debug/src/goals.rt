@@ -96,7 +96,7 @@ fn unit_stop<L: Lookaside>(
 }
 
 /// What stops the process that runs next, if one does.
-fn break_stop<L: Lookaside>(
+pub(crate) fn break_stop<L: Lookaside>(
     station: &Station<L>,
     actions: &[Option<Action>],
     breakpoints: &[Breakpoint],

@@ -1,14 +1,18 @@
-//! A run that goes forward by blocks, where nothing but a denial can stop it.
-ghost use Rattle.std.specs.Prelude.{◌≡◌, ◌≤◌, IfSome, None, false, true};
+//! A run that goes forward by blocks, where nothing but a denial and breakpoints can stop it.
+ghost use Rattle.std.specs.Prelude.{◌≡◌, ◌≤◌, ℕ, [], IfSome, None, false, true};
+ghost use Rattle.ds_ahead.specs.Inner.Stops.{may_hold};
 ghost use Rattle.ds_refinement.specs.Real.{RealPath};
 ghost use Rattle.ds_refinement.specs.Inner.Runs.{RunsWithin};
+ghost use Rattle.ds_gdb.specs.Points.{is_break};
 ghost use Rattle.ds_debug.specs.Forward.{HasPassed};
 ghost use Rattle.ds_debug.specs.Goals.{goal_with};
 ghost use Rattle.ds_debug.specs.Inner.Inputs.{IsReached};
-ghost use Rattle.ds_debug.specs.Inner.Leaps.{IsFree, IsFurther, Leaps, is_calm};
+ghost use Rattle.ds_debug.specs.Inner.Leaps.{HasLeapt, IsFree, IsFurther, IsUnbroken, Leaps, is_calm};
 
+use crate::goals::break_stop;
 use crate::past::Past;
 use crate::times::earlier;
+use ds_ahead::Stops;
 use ds_gdb::{Breakpoint, Watchpoint};
 use ds_packets::Action;
 use ds_station::Station;
@@ -20,6 +24,9 @@ pub(crate) const SHORT: u64 = 1 << 15;
 /// How many ticks a leap takes at most.
 const LONG: u64 = 1 << 22;
 
+/// A leap that ends early takes as many ticks at least: else turns are as quick.
+const FEW: u64 = 1 << 13;
+
 /// Whether a process goes on up to a stop, or stays as it is.
 fn is_calm(action: Option<Action>) -> bool
     ensures { result ≡ is_calm action }
@@ -30,7 +37,7 @@ fn is_calm(action: Option<Action>) -> bool
     }
 }
 
-/// Whether no process takes steps, and there is no breakpoint and no watch.
+/// Whether no process takes steps, and there is no watch.
 fn is_free(
     actions: &[Option<Action>],
     breakpoints: &[Breakpoint],
@@ -38,9 +45,25 @@ fn is_free(
 ) -> bool
     ensures { result ≡ true → IsFree (goal_with actions.now breakpoints.now watchpoints.now) }
 {
+    watchpoints.is_empty() && actions.iter().all(|action| is_calm(*action))
+}
+
+/// Whether there is no breakpoint.
+fn are_none(breakpoints: &[Breakpoint]) -> bool
+    ensures { result ≡ true → breakpoints.now ≡ [] }
+{
     breakpoints.is_empty()
-        && watchpoints.is_empty()
-        && actions.iter().all(|action| is_calm(*action))
+}
+
+/// The addresses of the breakpoints, and maybe others.
+fn stops_at(breakpoints: &[Breakpoint]) -> Stops
+    ensures { (p pc : ℕ) → is_break breakpoints.now p pc ≡ true → may_hold result pc ≡ true }
+{
+    let mut stops = Stops::new();
+    for breakpoint in breakpoints {
+        stops.add(breakpoint.address);
+    }
+    stops
 }
 
 /// Whether a station came further up to a time, with nothing new in the log, and somebody has not ended.
@@ -56,15 +79,50 @@ fn is_further<L: Lookaside>(old: &Station<L>, new: &Station<L>, n: u64) -> bool
     new.first_unended().is_some()
 }
 
-/// The station so many ticks later, or shortly before `n`, if nothing came to the log, and somebody has
-/// not ended then.
-fn leaped<L: Lookaside>(station: &Station<L>, n: u64, ticks: u64) -> Option<Station<L>>
+/// Runs until a time, or at most to where whoever runs next is at an address that may be one of a
+/// breakpoint. Whether it could.
+fn run_to<L: Lookaside>(
+    station: &mut Station<L>,
+    n: u64,
+    actions: &[Option<Action>],
+    breakpoints: &[Breakpoint],
+) -> bool
     requires limit { n ≤ 1000000000 }
-    requires spent { station.now.held.own.spent ≡ 0 }
-    requires working { station.now.held.own.failed ≡ false }
-    ensures { IfSome result (λ s. Leaps n station.now.held s.held) }
+    requires spent { station.old.held.own.spent ≡ 0 }
+    ensures { result ≡ true
+        → HasLeapt (record { actions = actions.now; breakpoints = breakpoints.now }) n
+        station.old.held station.new.held }
 {
-    let until = earlier(station.time().saturating_add(ticks), n.saturating_sub(2));
+    if are_none(breakpoints) {
+        return match station.run(n) {
+            Ok(()) => true,
+            Err(_) => false,
+        };
+    }
+    let stops = stops_at(breakpoints);
+    match station.run_until(n, &stops) {
+        Ok(()) => true,
+        Err(_) => false,
+    }
+}
+
+/// The station where a run to a time comes to, if nothing came to the log, and somebody has not ended
+/// then.
+fn run_ahead<L: Lookaside>(
+    station: &Station<L>,
+    n: u64,
+    until: u64,
+    actions: &[Option<Action>],
+    breakpoints: &[Breakpoint],
+) -> Option<Station<L>>
+    requires limit { n ≤ 1000000000 }
+    requires until { until ≤ n }
+    requires spent { station.now.held.own.spent ≡ 0 }
+    ensures further { IfSome result (λ s. IsFurther n station.now.held s.held) }
+    ensures leapt { IfSome result (λ s.
+        HasLeapt (record { actions = actions.now; breakpoints = breakpoints.now }) n
+        station.now.held s.held) }
+{
     if until <= station.time() {
         return None;
     }
@@ -72,19 +130,68 @@ fn leaped<L: Lookaside>(station: &Station<L>, n: u64, ticks: u64) -> Option<Stat
         Ok(ahead) => ahead,
         Err(_) => return None,
     };
-    match ahead.run(until) {
-        Ok(()) => {}
-        Err(_) => return None,
-    }
-    if is_further(station, &ahead, n) {
+    if run_to(&mut ahead, until, actions, breakpoints) && is_further(station, &ahead, n) {
         Some(ahead)
     } else {
         None
     }
 }
 
+/// Whether whoever runs next is at a breakpoint.
+fn is_broken<L: Lookaside>(
+    station: &Station<L>,
+    actions: &[Option<Action>],
+    breakpoints: &[Breakpoint],
+) -> bool
+    ensures { result ≡ false
+        → IsUnbroken (record { actions = actions.now; breakpoints = breakpoints.now })
+        station.now.held }
+{
+    break_stop(station, actions, breakpoints).is_some()
+}
+
+/// The station so many ticks later, or shortly before `n`, or before a breakpoint that comes first, if
+/// nothing came to the log, and somebody has not ended then. None where that is not far.
+fn leaped<L: Lookaside>(
+    station: &Station<L>,
+    n: u64,
+    ticks: u64,
+    actions: &[Option<Action>],
+    breakpoints: &[Breakpoint],
+) -> Option<Station<L>>
+    requires limit { n ≤ 1000000000 }
+    requires spent { station.now.held.own.spent ≡ 0 }
+    ensures { IfSome result (λ s.
+        Leaps (record { actions = actions.now; breakpoints = breakpoints.now }) n
+        station.now.held s.held) }
+{
+    let until = earlier(station.time().saturating_add(ticks), n.saturating_sub(2));
+    let ahead = match run_ahead(station, n, until, actions, breakpoints) {
+        Some(ahead) => ahead,
+        None => return None,
+    };
+    let time = ahead.time();
+    if time < until && time < station.time().saturating_add(FEW) {
+        return None;
+    }
+    if !is_broken(&ahead, actions, breakpoints) {
+        return Some(ahead);
+    }
+    let until = earlier(time.saturating_sub(2), n);
+    let before = match run_ahead(station, n, until, actions, breakpoints) {
+        Some(before) => before,
+        None => return None,
+    };
+    if is_broken(&before, actions, breakpoints) {
+        None
+    } else {
+        Some(before)
+    }
+}
+
 /// Goes on with a run for `n` by leaps, each twice as long as the one before it, where nothing but a
-/// denial can stop it, as long as nothing comes to the log. Stations on the way are kept in the past.
+/// denial and breakpoints can stop it, as long as nothing comes to the log and no breakpoint is near.
+/// Stations on the way are kept in the past.
 pub(crate) fn leap<'a>(
     past: &mut Past<'a>,
     station: &mut Station<Indexed<64, 8>>,
@@ -113,7 +220,7 @@ pub(crate) fn leap<'a>(
         return;
     }
     let mut ticks = SHORT;
-    while let Some(ahead) = leaped(station, n, ticks) {
+    while let Some(ahead) = leaped(station, n, ticks, actions, breakpoints) {
         *station = ahead;
         past.keep(station);
         ticks = earlier(ticks.saturating_add(ticks), LONG);

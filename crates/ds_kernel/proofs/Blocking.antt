@@ -228,7 +228,7 @@ module _ {L : Type 0} (limit n : ℕ) (old new : Parts L) (c : CoreState) (b : B
     spent_is : new.spent ≡ counts.spent
     spent_is = ap (λ (o : Own). o.spent) own
 
-    calm_is : held new ≡ with_block n (held old) hw
+    pub calm_is : held new ≡ with_block n (held old) hw
     calm_is = moved_is counts own passed_is ∙ ap (λ (t : ℕ). moved (held old) hw (time_after n (held old)) None (counts_beyond n t c.slot (own_of old))) passed_is
 
     user : is_user new.core.system ≡ true
@@ -291,7 +291,7 @@ module _ {L : Type 0} (limit n : ℕ) (old new : Parts L) (c : CoreState) (b : B
     within : n ≤ limit
     within = omega (arith, fewer)
 
-    raised_is : held new ≡ with_exception n (held old) hw
+    pub raised_is : held new ≡ with_exception n (held old) hw
     raised_is =
         moved_is (one_more (counts_beyond n passed delayed (own_of old))) own passed_so
         ∙ ap (λ (t : ℕ). moved (held old) hw (time_after n (held old)) None (one_more (counts_beyond n t delayed (own_of old)))) passed_so

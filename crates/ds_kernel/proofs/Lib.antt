@@ -27,3 +27,4 @@ pub mod IdleTurns
 pub mod AtOnce
 pub mod Hearing
 pub mod OnRides
+pub mod Untils

@@ -44,7 +44,7 @@ fn is_call(code: ExceptionCode) -> bool
 impl<L: Lookaside> Parts<L> {
     /// Whether the processor stands in the slot of a branch.
     #[inline(always)]
-    fn is_in_slot(&self) -> bool
+    pub(crate) fn is_in_slot(&self) -> bool
         ensures { result ≡ self.now.core.slot }
     {
         self.core.slot
@@ -52,7 +52,7 @@ impl<L: Lookaside> Parts<L> {
 
     /// The tick that is left to the slot in which the processor stands, if it does.
     #[inline(always)]
-    fn slot_tick(&self) -> u32
+    pub(crate) fn slot_tick(&self) -> u32
         ensures { result ≡ owed_tick self.now.core.slot }
     {
         owed_tick(self.is_in_slot())
@@ -161,7 +161,7 @@ impl<L: Lookaside> Parts<L> {
     /// in a slot or not: their ticks are over, and what is counted of the unit is as they leave it.
     /// Where the block began with its unit, nothing else is counted than that.
     #[inline(always)]
-    fn count_block(&mut self, steps: u32, before: u32, slot: bool)
+    pub(crate) fn count_block(&mut self, steps: u32, before: u32, slot: bool)
         requires fresh { self.old.spent ≡ before → IsFresh (own_of self.old) }
         requires early { self.old.monitor.time ≤ 1000000000 }
         requires fits { steps + before < 2 ^ 32 }
@@ -187,7 +187,7 @@ impl<L: Lookaside> Parts<L> {
 
     /// The same, with one instruction more, which raised an exception: it stood in a slot or not.
     #[inline(always)]
-    fn count_raised(&mut self, steps: u32, before: u32, slot: bool)
+    pub(crate) fn count_raised(&mut self, steps: u32, before: u32, slot: bool)
         requires fresh { self.old.spent ≡ before → IsFresh (own_of self.old) }
         requires early { self.old.monitor.time ≤ 1000000000 }
         requires fits { steps + before < 2 ^ 32 }

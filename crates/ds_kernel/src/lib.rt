@@ -25,6 +25,7 @@ mod serve;
 mod steps;
 mod turn;
 mod units;
+mod until;
 
 pub use halt::Halt;
 pub use idle::turns_of_nobody_are_one_step;

@@ -21,7 +21,7 @@ use ds_tlb::Lookaside;
 impl<L: Lookaside> Parts<L> {
     /// Whether a run for n goes on.
     #[inline(always)]
-    fn goes_on(&self, n: u64) -> bool
+    pub(crate) fn goes_on(&self, n: u64) -> bool
         requires good { IsGood self.now }
         ensures { result ≡ held_goes_on n (held self.now) }
     {

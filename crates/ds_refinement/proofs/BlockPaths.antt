@@ -1,6 +1,6 @@
 -- A block of instructions is a path of real steps.
-use Rattle.std.proofs.Common.{◌≡◌, ◌≢◌, ℕ, zero, suc, ◌+◌, ◌<◌, ◌≤◌, ◌^◌, Bool, true, false, [], refl, sym, ap, ap₂, subst, ◌∙◌, inl, inr, arith}
-use Rattle.std.specs.Prelude.{◌==◌, ◌&&◌, not, Option, Some, None}
+use Rattle.std.proofs.Common.{◌≡◌, ◌≢◌, ℕ, zero, suc, ◌+◌, ◌<◌, ◌≤◌, ◌^◌, Bool, true, false, List, [], ◌∷◌, refl, sym, ap, ap₂, subst, ◌∙◌, inl, inr, arith}
+use Rattle.std.specs.Prelude.{◌==◌, ◌&&◌, not, is_some, IsSome, Option, Some, None}
 use Rattle.ds_word.specs.Word.{bits}
 use Rattle.ds_cp0.specs.declared.exception.ExceptionCode.{ExceptionCode}
 use Rattle.ds_cp0.specs.System.{System, is_user}
@@ -12,6 +12,7 @@ use Rattle.ds_core.specs.Inner.Core.{is_raised}
 use Rattle.ds_core.specs.Effect as whole
 use Rattle.ds_ahead.specs.Inner.Ahead as ahead
 use Rattle.ds_ahead.specs.Inner.Ahead.{Hardware, hardware_of, left_by, after_steps, Advances, AdvancesTo, ComesByWords, owed_tick, ticks_after, ticks}
+use Rattle.ds_ahead.specs.Inner.Stops.{ComesClear}
 use Rattle.ds_ahead.proofs.Slots.{Slots, step_slots, ticks_of_advance}
 use Rattle.ds_core.proofs.Users.{keeps_system}
 use Rattle.ds_pagemap.specs.declared.turn.Turn.{Turn}
@@ -26,6 +27,7 @@ use Rattle.ds_refinement.specs.Counts.{Counts, counts_of, fresh_counts, one_more
 use Rattle.ds_refinement.specs.Steps.{Follows, Moves, ticks_of}
 use Rattle.ds_refinement.specs.Inner.Services.{after_event, step_of, with_one_spent, with_boundary}
 use Rattle.ds_refinement.specs.Real.{IsReal, RealPath}
+use Rattle.ds_refinement.specs.Inner.Clear.{ClearPath, IsMet}
 use Rattle.ds_refinement.specs.Inner.Quiet.{IsUndisturbed}
 use Rattle.ds_refinement.specs.Inner.Blocks.{moved, more_counted, counts_beyond, time_after, with_block, with_exception, at_time, IsQuietUntil, MayRunAhead}
 use Rattle.ds_refinement.proofs.Boundaries.{quiet}
@@ -84,9 +86,10 @@ counts_few n (suc t) slot own few one = (let small = owed_small slot in omega (a
 abbrev told_as : Event → core.Step → core.Step
 told_as e s = record { event = e; core = s.core; bus = s.bus }
 
--- What is kept by each real step of a run, if it begins before the run's end.
-record Carries (end : ℕ) (P : Held → Type 0) : Type 0 where
-  more : (b c : Held) (kind : Step) → P b → BeginsBefore end b → Follows kind b c → Moves kind b c → IsReal b c → P c
+-- What is kept by each real step of a run, if it begins before the run's end, and from where Q holds, as it does where a boundary is owed.
+record Carries (end : ℕ) (Q P : Held → Type 0) : Type 0 where
+  more : (b c : Held) (kind : Step) → P b → Q b → BeginsBefore end b → Follows kind b c → Moves kind b c → IsReal b c → P c
+  owing : (b : Held) → IsSome b.kept.state.owed → Q b
 
 -- One instruction of the process that runs, in user mode and with no boundary owed.
 module _ (b : Held) (s : core.Step) (is : s ≡ whole.step b.core b.bus) (owed : b.kept.state.owed ≡ None) (ready : b.kept.state.ready ≢ []) (user : is_user b.core.system ≡ true) (within : b.core.pc < 2 ^ 32) (complete : is_raised s.event ≡ true → IsWhole s.core) where
@@ -117,16 +120,16 @@ module _ (b : Held) (s : core.Step) (is : s ≡ whole.step b.core b.bus) (owed :
   boundary_moves = let e : afterwards.kept.state.time ≡ afterwards.kept.state.time + 0 = omega arith in (refl, refl, e, refl, refl)
 
   -- with its boundary, which has nothing to do
-  unit_carries : (end : ℕ) (P : Held → Type 0) → Carries end P → P b → b.kept.state.time < end → s.event ≡ Retired → b.kept.ticked ≤ afterwards.kept.state.time → IsUndisturbed afterwards.kept → P (with_boundary afterwards)
-  unit_carries end P carries p before at ticked q =
+  unit_carries : (end : ℕ) (Q P : Held → Type 0) → Carries end Q P → P b → Q b → b.kept.state.time < end → s.event ≡ Retired → b.kept.ticked ≤ afterwards.kept.state.time → IsUndisturbed afterwards.kept → P (with_boundary afterwards)
+  unit_carries end Q P carries p met before at ticked q =
       carries.more afterwards (with_boundary afterwards) Boundary
-      (carries.more b afterwards Unit p (inr (ready, before)) (follows Retired at) (owed, refl, refl, refl, refl, refl) (real Retired at))
-      (inl refl) (quiet afterwards refl refl ticked q) boundary_moves boundary_real
+      (carries.more b afterwards Unit p met (inr (ready, before)) (follows Retired at) (owed, refl, refl, refl, refl, refl) (real Retired at))
+      (carries.owing afterwards refl) (inl refl) (quiet afterwards refl refl ticked q) boundary_moves boundary_real
 
   -- a branch, or an exception: the unit isn't at its end
-  inside_carries : (end : ℕ) (P : Held → Type 0) (e : Event) → Carries end P → P b → b.kept.state.time < end → s.event ≡ e → step_of e ≡ Inside → b.own.spent ≤ 63
+  inside_carries : (end : ℕ) (Q P : Held → Type 0) (e : Event) → Carries end Q P → P b → Q b → b.kept.state.time < end → s.event ≡ e → step_of e ≡ Inside → b.own.spent ≤ 63
       → P (record b { core = s.core; bus = s.bus; own = with_one_spent b.own })
-  inside_carries end P e carries p before at inside few = by e at inside
+  inside_carries end Q P e carries p met before at inside few = by e at inside
     where
       new : Held
       new = record b { core = s.core; bus = s.bus; own = with_one_spent b.own }
@@ -136,8 +139,8 @@ module _ (b : Held) (s : core.Step) (is : s ≡ whole.step b.core b.bus) (owed :
 
       by : (e : Event) → s.event ≡ e → step_of e ≡ Inside → P new
       by Retired at other = absurd (cc)
-      by Branched at inside = carries.more b new Inside p (inr (ready, before)) (follows Branched at) moves (real Branched at)
-      by (Raised code) at inside = carries.more b new Inside p (inr (ready, before)) (follows (Raised code) at) moves (real (Raised code) at)
+      by Branched at inside = carries.more b new Inside p met (inr (ready, before)) (follows Branched at) moves (real Branched at)
+      by (Raised code) at inside = carries.more b new Inside p met (inr (ready, before)) (follows (Raised code) at) moves (real (Raised code) at)
 
 -- the slot that Cause tells after an exception
 slot_told_by : (s : core.Step) (at : Hardware) (code : ExceptionCode) → s ≡ ahead.step_of at → s.event ≡ Raised code → is_delayed s.core.system ≡ at.core.slot
@@ -149,7 +152,7 @@ quiet_owed : (k : Kept) (owed : Option Turn) → IsUndisturbed k → IsUndisturb
 quiet_owed k owed q = record { commands = q.commands; characters = q.characters; asleep = q.asleep; period = q.period; ends = q.ends }
 
 -- Many instructions, from h on.
-module _ (h : Held) (owed : h.kept.state.owed ≡ None) (ready : h.kept.state.ready ≢ []) (mode : h.core.system.status ≡ user_status) (few : h.own.spent ≤ 61) (last : ℕ) (calm_until : IsQuietUntil last h.kept) (end : ℕ) (P : Held → Type 0) (carries : Carries end P) (begun : P h) where
+module _ (h : Held) (owed : h.kept.state.owed ≡ None) (ready : h.kept.state.ready ≢ []) (mode : h.core.system.status ≡ user_status) (few : h.own.spent ≤ 61) (last : ℕ) (calm_until : IsQuietUntil last h.kept) (end : ℕ) (Q P : Held → Type 0) (carries : Carries end Q P) (begun : P h) where
   abbrev start : Hardware
   start = hardware_of h.core h.bus
 
@@ -158,6 +161,10 @@ module _ (h : Held) (owed : h.kept.state.owed ≡ None) (ready : h.kept.state.re
 
   abbrev at : ℕ → Hardware
   at n = after_steps n start
+
+  -- Q holds where each of so many steps begins
+  abbrev AreMetAt : ℕ → Type 0
+  AreMetAt n = (k : ℕ) → k < n → Q (with_block k h (at k))
 
   -- the processor stays in user mode
   system_kept : (n : ℕ) → IsCalm n → (at n).core.system ≡ h.core.system
@@ -192,7 +199,7 @@ module _ (h : Held) (owed : h.kept.state.owed ≡ None) (ready : h.kept.state.re
       before
 
   -- One step more.
-  module _ (n : ℕ) (calm : IsCalm (suc n)) (words : (at n).core.pc < 2 ^ 32) (early : h.kept.state.time + suc n + owed_tick h.core.slot ≤ last) (soon : h.kept.state.time + suc n + owed_tick h.core.slot ≤ end) (path : P (with_block n h (at n))) where
+  module _ (n : ℕ) (calm : IsCalm (suc n)) (words : (at n).core.pc < 2 ^ 32) (early : h.kept.state.time + suc n + owed_tick h.core.slot ≤ last) (soon : h.kept.state.time + suc n + owed_tick h.core.slot ≤ end) (path : P (with_block n h (at n))) (met : Q (with_block n h (at n))) where
     abbrev b : Held
     b = with_block n h (at n)
 
@@ -236,7 +243,7 @@ module _ (h : Held) (owed : h.kept.state.owed ≡ None) (ready : h.kept.state.re
         let turn : Option Turn = Some (record { began = h.kept.state.time + ticks n start; runner = first h.kept.state.ready }) in
         subst P
         (ap₂ (λ (t : ℕ) (k : Counts). moved h (left_by s) t None k) time_is counts)
-        (unit_carries b s refl refl ready user words complete end P carries path before_end is since (quiet_owed (at_time time h.kept) turn q))
+        (unit_carries b s refl refl ready user words complete end Q P carries path met before_end is since (quiet_owed (at_time time h.kept) turn q))
     by Branched is quiet_step =
         let more : ticks (suc n) start ≡ ticks n start + 0 = more_ticks Branched is in
         let time_is : h.kept.state.time + ticks n start ≡ h.kept.state.time + ticks (suc n) start = omega (arith, more) in
@@ -247,21 +254,21 @@ module _ (h : Held) (owed : h.kept.state.owed ≡ None) (ready : h.kept.state.re
         let most = few_counted n (λ k below. calm k (omega (arith, below))) in
         subst P
         (ap₂ (λ (t : ℕ) (k : Counts). moved h (left_by s) t None k) time_is counts)
-        (inside_carries b s refl refl ready user words complete end P Branched carries path before_end is refl (omega (arith, most)))
+        (inside_carries b s refl refl ready user words complete end Q P Branched carries path met before_end is refl (omega (arith, most)))
     by (Raised code) is quiet_step = absurd (cc)
 
   -- steps that enter no exception
-  block : (n : ℕ) → IsCalm n → ComesByWords n start → h.kept.state.time + n + owed_tick h.core.slot ≤ last → h.kept.state.time + n + owed_tick h.core.slot ≤ end → P (with_block n h (at n))
-  block zero calm words early soon = none
-  block (suc n) calm words early soon =
+  block : (n : ℕ) → IsCalm n → ComesByWords n start → h.kept.state.time + n + owed_tick h.core.slot ≤ last → h.kept.state.time + n + owed_tick h.core.slot ≤ end → AreMetAt n → P (with_block n h (at n))
+  block zero calm words early soon met = none
+  block (suc n) calm words early soon met =
       by n calm (words n (omega arith)) early soon
-      (block n (λ k below. calm k (omega (arith, below))) (λ k upto. words k (omega (arith, upto))) (omega (arith, early)) (omega (arith, soon)))
-      (ahead.step_of (at n)).event refl (calm n (omega arith))
+      (block n (λ k below. calm k (omega (arith, below))) (λ k upto. words k (omega (arith, upto))) (omega (arith, early)) (omega (arith, soon)) (λ k below. met k (omega (arith, below))))
+      (met n (omega arith)) (ahead.step_of (at n)).event refl (calm n (omega arith))
 
   -- and after them one that does
   raised : (n : ℕ) (hw : Hardware) (code : ExceptionCode) → IsCalm n → ComesByWords n start → h.kept.state.time + n + owed_tick h.core.slot ≤ last → h.kept.state.time + suc n + owed_tick h.core.slot ≤ end
-      → IsWhole hw.core → record { event = Raised code; core = hw.core; bus = hw.bus } ≡ ahead.step_of (at n) → P (with_exception n h hw)
-  raised n hw code calm words early soon all is =
+      → IsWhole hw.core → record { event = Raised code; core = hw.core; bus = hw.bus } ≡ ahead.step_of (at n) → AreMetAt (suc n) → P (with_exception n h hw)
+  raised n hw code calm words early soon all is met =
       let s : core.Step = record { event = Raised code; core = hw.core; bus = hw.bus } in
       let user : is_user (at n).core.system ≡ true = user_kept n calm in
       let most = few_counted n calm in
@@ -269,28 +276,35 @@ module _ (h : Held) (owed : h.kept.state.owed ≡ None) (ready : h.kept.state.re
       let here : (at n).core.pc < 2 ^ 32 = words n (omega arith) in
       subst P
       (ap (λ (slot : Bool). moved h hw (time_after n h) None (one_more (counts_beyond n (ticks n start) slot h.own))) (sym told))
-      (inside_carries (with_block n h (at n)) s is refl ready user here (λ raised. all) end P (Raised code) carries
-      (block n calm words early (omega (arith, soon))) (begins n calm soon) refl refl (omega (arith, most)))
+      (inside_carries (with_block n h (at n)) s is refl ready user here (λ raised. all) end Q P (Raised code) carries
+      (block n calm words early (omega (arith, soon)) (λ k below. met k (omega (arith, below)))) (met n (omega arith)) (begins n calm soon) refl refl (omega (arith, most)))
 
 -- The laws.
 
-module _ (n limit : ℕ) (h : Held) (hw : Hardware) (g : MayRunAhead limit h) (words : ComesByWords n (hardware_of h.core h.bus)) (within : n ≤ limit) (end : ℕ) (P : Held → Type 0) (carries : Carries end P) (begun : P h) where
+module _ (n limit : ℕ) (h : Held) (hw : Hardware) (g : MayRunAhead limit h) (words : ComesByWords n (hardware_of h.core h.bus)) (within : n ≤ limit) (end : ℕ) (Q P : Held → Type 0) (carries : Carries end Q P) (begun : P h) where
+  abbrev MetAt : ℕ → Type 0
+  MetAt m = (k : ℕ) → k < m → Q (with_block k h (after_steps k (hardware_of h.core h.bus)))
+
   -- steps that enter no exception
-  block_carries : Advances n (hardware_of h.core h.bus) hw → h.kept.state.time + n + owed_tick h.core.slot ≤ end → P (with_block n h hw)
-  block_carries advances soon =
+  block_carries : Advances n (hardware_of h.core h.bus) hw → h.kept.state.time + n + owed_tick h.core.slot ≤ end → MetAt n → P (with_block n h hw)
+  block_carries advances soon met =
       subst (λ (x : Hardware). P (with_block n h x)) (sym advances.state)
-      (block h g.owed g.ready g.mode g.few (h.kept.state.time + limit + owed_tick h.core.slot) g.quiet end P carries begun n advances.calm words (omega (arith, within)) soon)
+      (block h g.owed g.ready g.mode g.few (h.kept.state.time + limit + owed_tick h.core.slot) g.quiet end Q P carries begun n advances.calm words (omega (arith, within)) soon met)
 
   -- such steps and one that enters an exception
-  raised_carries : (code : ExceptionCode) → AdvancesTo n (Some code) (hardware_of h.core h.bus) hw → IsWhole hw.core → h.kept.state.time + suc n + owed_tick h.core.slot ≤ end → P (with_exception n h hw)
-  raised_carries code leads all soon =
-      raised h g.owed g.ready g.mode g.few (h.kept.state.time + limit + owed_tick h.core.slot) g.quiet end P carries begun n hw code leads.1.calm words (omega (arith, within)) soon all
-      (leads.2 ∙ ap ahead.step_of leads.1.state)
+  raised_carries : (code : ExceptionCode) → AdvancesTo n (Some code) (hardware_of h.core h.bus) hw → IsWhole hw.core → h.kept.state.time + suc n + owed_tick h.core.slot ≤ end → MetAt (suc n) → P (with_exception n h hw)
+  raised_carries code leads all soon met =
+      raised h g.owed g.ready g.mode g.few (h.kept.state.time + limit + owed_tick h.core.slot) g.quiet end Q P carries begun n hw code leads.1.calm words (omega (arith, within)) soon all
+      (leads.2 ∙ ap ahead.step_of leads.1.state) met
 
 -- They are paths.
 
-paths_carry : (end : ℕ) (h : Held) → Carries end (RealPath h)
-paths_carry end h = record { more = λ b c kind p begins f m r. path_join h b c p (one_step kind b c f m r) }
+-- each state will do
+abbrev Anywhere : Held → Type 0
+Anywhere h = h ≡ h
+
+paths_carry : (end : ℕ) (h : Held) → Carries end Anywhere (RealPath h)
+paths_carry end h = record { more = λ b c kind p met begins f m r. path_join h b c p (one_step kind b c f m r); owing = λ b owed. refl }
 
 no_path : (h : Held) → RealPath h h
 no_path h = record { path = []; through = refl }
@@ -299,28 +313,60 @@ pub block_is_path : (n limit : ℕ) (h : Held) (hw : Hardware) → n ≤ limit �
     → RealPath h (with_block n h hw)
 block_is_path n limit h hw within g advances words =
     let end : ℕ = h.kept.state.time + n + owed_tick h.core.slot in
-    block_carries n limit h hw g words within end (RealPath h) (paths_carry end h) (no_path h) advances (omega arith)
+    block_carries n limit h hw g words within end Anywhere (RealPath h) (paths_carry end h) (no_path h) advances (omega arith) (λ k below. refl)
 
 pub raised_is_path : (n limit : ℕ) (h : Held) (hw : Hardware) (code : ExceptionCode) → n ≤ limit → MayRunAhead limit h → AdvancesTo n (Some code) (hardware_of h.core h.bus) hw
     → ComesByWords n (hardware_of h.core h.bus) → IsWhole hw.core → RealPath h (with_exception n h hw)
 raised_is_path n limit h hw code within g leads words all =
     let end : ℕ = h.kept.state.time + suc n + owed_tick h.core.slot in
-    raised_carries n limit h hw g words within end (RealPath h) (paths_carry end h) (no_path h) code leads all (omega arith)
+    raised_carries n limit h hw g words within end Anywhere (RealPath h) (paths_carry end h) (no_path h) code leads all (omega arith) (λ k below. refl)
+
+-- And clear ones, where the program is clear at each of the steps but the first.
+
+clear_carries : (marks : List Bool) (end : ℕ) (h : Held) → Carries end (IsMet marks h) (ClearPath marks h)
+clear_carries marks end h = record {
+  more = λ b c kind p met begins f m r. record { path = b ∷ p.path; through = ((kind, f, m, r), p.through); met = (met, p.met) };
+  owing = λ b owed. inr (λ none. let no : false ≡ true = sym (ap is_some none) ∙ owed in absurd (cc));
+}
+
+pub no_clear_path : (marks : List Bool) (h : Held) → ClearPath marks h h
+no_clear_path marks h = record { path = []; through = refl; met = tt }
+
+met_at : (marks : List Bool) (n : ℕ) (h : Held) → h.kept.state.owed ≡ None → ComesClear marks n (hardware_of h.core h.bus)
+    → (k : ℕ) → k < n → IsMet marks h (with_block k h (after_steps k (hardware_of h.core h.bus)))
+met_at marks n h owed clear zero below = inl (
+    let same : h.kept.state.time + 0 ≡ h.kept.state.time = omega arith in
+    ap (λ (t : ℕ). moved h (hardware_of h.core h.bus) t None (counts_of h.own)) same
+    ∙ ap (λ (o : Option Turn). moved h (hardware_of h.core h.bus) h.kept.state.time o (counts_of h.own)) (sym owed))
+met_at marks n h owed clear (suc k) below = inr (λ none rests some. clear (suc k) (omega arith) below)
+
+pub block_is_clear : (marks : List Bool) (n limit : ℕ) (h : Held) (hw : Hardware) → n ≤ limit → MayRunAhead limit h → Advances n (hardware_of h.core h.bus) hw → ComesByWords n (hardware_of h.core h.bus)
+    → ComesClear marks n (hardware_of h.core h.bus) → ClearPath marks h (with_block n h hw)
+block_is_clear marks n limit h hw within g advances words clear =
+    let end : ℕ = h.kept.state.time + n + owed_tick h.core.slot in
+    block_carries n limit h hw g words within end (IsMet marks h) (ClearPath marks h) (clear_carries marks end h) (no_clear_path marks h) advances (omega arith) (met_at marks n h g.owed clear)
+
+pub raised_is_clear : (marks : List Bool) (n limit : ℕ) (h : Held) (hw : Hardware) (code : ExceptionCode) → n ≤ limit → MayRunAhead limit h → AdvancesTo n (Some code) (hardware_of h.core h.bus) hw
+    → ComesByWords n (hardware_of h.core h.bus) → IsWhole hw.core → ComesClear marks (n + 1) (hardware_of h.core h.bus) → ClearPath marks h (with_exception n h hw)
+raised_is_clear marks n limit h hw code within g leads words all clear =
+    let end : ℕ = h.kept.state.time + suc n + owed_tick h.core.slot in
+    raised_carries n limit h hw g words within end (IsMet marks h) (ClearPath marks h) (clear_carries marks end h) (no_clear_path marks h) code leads all (omega arith)
+    (λ k below. met_at marks (n + 1) h g.owed clear k (omega (arith, below)))
 
 -- And they are within a run whose end comes no earlier than theirs.
 
-runs_carry : (end : ℕ) (old : Held) → Carries end (RunsWithin end old)
-runs_carry end old = record { more = λ b c kind w begins f m r. within_before kind end old b c w begins f }
+runs_carry : (end : ℕ) (old : Held) → Carries end Anywhere (RunsWithin end old)
+runs_carry end old = record { more = λ b c kind w met begins f m r. within_before kind end old b c w begins f; owing = λ b owed. refl }
 
 pub block_runs : (n limit end : ℕ) (old h : Held) (hw : Hardware) → n ≤ limit → MayRunAhead limit h → h.kept.state.time + n + owed_tick h.core.slot ≤ end
     → Advances n (hardware_of h.core h.bus) hw → ComesByWords n (hardware_of h.core h.bus) → RunsWithin end old h → RunsWithin end old (with_block n h hw)
 block_runs n limit end old h hw within g soon advances words begun =
-    block_carries n limit h hw g words within end (RunsWithin end old) (runs_carry end old) begun advances soon
+    block_carries n limit h hw g words within end Anywhere (RunsWithin end old) (runs_carry end old) begun advances soon (λ k below. refl)
 
 pub raised_runs : (n limit end : ℕ) (old h : Held) (hw : Hardware) (code : ExceptionCode) → n ≤ limit → MayRunAhead limit h → h.kept.state.time + n + owed_tick h.core.slot < end
     → AdvancesTo n (Some code) (hardware_of h.core h.bus) hw → ComesByWords n (hardware_of h.core h.bus) → IsWhole hw.core → RunsWithin end old h → RunsWithin end old (with_exception n h hw)
 raised_runs n limit end old h hw code within g soon leads words all begun =
-    raised_carries n limit h hw g words within end (RunsWithin end old) (runs_carry end old) begun code leads all (omega (arith, soon))
+    raised_carries n limit h hw g words within end Anywhere (RunsWithin end old) (runs_carry end old) begun code leads all (omega (arith, soon)) (λ k below. refl)
 
 -- the ticks of steps that an exception ended, by the slot that Cause tells
 pub raised_ticks : (n : ℕ) (code : ExceptionCode) (old new : Hardware) → AdvancesTo n (Some code) old new → ticks n old + owed_tick (is_delayed new.core.system) ≡ n + owed_tick old.core.slot

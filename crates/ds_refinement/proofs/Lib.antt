@@ -21,6 +21,7 @@ pub mod Joined
 pub mod Raising
 pub mod RunSteps
 pub mod BlockPaths
+pub mod ClearPaths
 pub mod Quieter
 pub mod StationRows
 pub mod Fields

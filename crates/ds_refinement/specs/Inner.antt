@@ -1,6 +1,7 @@
 -- What code and proofs share, and no promise speaks of.
 pub mod Asks
 pub mod Blocks
+pub mod Clear
 pub mod Counts
 pub mod Course
 pub mod CourseSteps

@@ -29,6 +29,7 @@ ghost use Rattle.ds_policy.specs.InputFacts.{AreGoodCommands};
 ghost use Rattle.ds_pagemap.specs.Machine.{State};
 ghost use Rattle.ds_pagemap.specs.First.{first_state};
 ghost use Rattle.ds_refinement.specs.First.{IsFirst};
+ghost use Rattle.ds_refinement.specs.Inner.Clear.{ClearPath, IsAtStop};
 ghost use Rattle.ds_refinement.specs.Inner.Counts.{IsFew};
 ghost use Rattle.ds_refinement.specs.Stands.{Stands};
 ghost use Rattle.ds_refinement.specs.Inner.Stands.{IsSound};
@@ -49,6 +50,7 @@ ghost use Rattle.ds_promise.specs.Twins.{HaveRegisters};
 ghost use Rattle.ds_station.specs.Inner.Written.{RunsGuarded, ShowsUntouched};
 
 use crate::fault::Fault;
+use ds_ahead::Stops;
 use ds_asm::Image;
 use ds_kernel::Parts;
 use ds_policy::{Events, Policy};
@@ -237,5 +239,23 @@ impl<L: Lookaside> Station<L> {
         ensures alone { RunsAlone n self.old.held self.new.held }
     {
         Ok(self.parts.run(n)?)
+    }
+
+    /// Runs until the time is n or all processes have ended, or, once something is done, until it
+    /// stands between two turns and whoever runs next is at an address that may be among the stops: it
+    /// stands so nowhere before, but where it begins.
+    pub fn run_until(&mut self, n: u64, stops: &Stops) -> Result<(), Fault>
+        requires { n ≤ 1000000000 }
+        ensures within { OnOk result (RunsWithin n self.old.held self.new.held) }
+        ensures clear { OnOk result (ClearPath stops.now self.old.held self.new.held) }
+        ensures ends { OnOk result ((held_goes_on n self.new.held ≡ false)
+            ⊎ IsAtStop stops.now self.new.held) }
+        ensures good { OnOk result (self.new.held.own.failed ≡ false) }
+        ensures unit { OnOk result
+            (((self.old.held.own.spent ≡ 0) ⊎ (self.old.held.kept.state.time < n))
+            → self.new.held.own.spent ≡ 0) }
+        ensures short { self.old.held.own.failed ≡ false → OnErr result (self.new.room ≡ false) }
+    {
+        Ok(self.parts.run_until(n, stops)?)
     }
 }

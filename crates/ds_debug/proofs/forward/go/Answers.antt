@@ -86,7 +86,7 @@ loop-alloc-preserved c =
         path = c.in-Ok.ensures.real;
         later = omega (arith, c.if-time-began.false, c.time-began.ensures.held, c.time-in-loop-alloc.ensures.held);
       };
-      stays = inl (sym c.exits_next.ensures ∙ c.if-exits_next.false);
+      stays = sym c.exits_next.ensures ∙ c.if-exits_next.false;
     } in
     record {
       passed = one_passed goal_here c.args.n c.args.station.now.held last new c.loop-alloc.invariant.passed turn
@@ -115,7 +115,7 @@ returns-in-Some-clause-goes c =
           path = c.in-Ok.ensures.real;
           later = omega (arith, c.if-time-began.false, c.time-began.ensures.held, c.time-in-loop-alloc.ensures.held);
         };
-        stays = inl (sym c.exits_next.ensures ∙ c.if-exits_next.false);
+        stays = sym c.exits_next.ensures ∙ c.if-exits_next.false;
       };
       stops = stop_told goal_here last new c.runner-runner.result (length c.log-logged.result.now) c.as_slice.result.now (Some c.in-Some.stop) c.runner-runner.ensures.held (ap (length {A = ℕ}) c.log-logged.ensures.held) (c.as_slice.ensures.value ∙ c.in_ok-seen.ensures) (sym c.in-Some.is ∙ c.stop_after.ensures.value);
     }

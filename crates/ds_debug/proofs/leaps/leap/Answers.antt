@@ -30,13 +30,13 @@ keep-requires c =
     let start : Held = c.args.station.now.held in
     let last : Held = c.loop-ahead.station.held in
     let new : Held = c.in-Some.ahead.held in
-    let leap : Leaps c.args.n last new = c.in-Some.ensures in
+    let leap : Leaps (record { actions = c.args.actions.now; breakpoints = c.args.breakpoints.now }) c.args.n last new = c.in-Some.ensures in
     record {
       reached = reached_past c.args.past.now c.loop-ahead.past c.args.n start new c.loop-ahead.invariant.same c.requires.limit c.requires.reached
-          (within_join c.args.n c.args.n (omega arith) start last new c.loop-ahead.invariant.within leap.within) (path_join start last new c.loop-ahead.invariant.path leap.path);
-      whole = leap.whole;
-      spent = leap.spent;
-      working = leap.working;
+          (within_join c.args.n c.args.n (omega arith) start last new c.loop-ahead.invariant.within leap.leapt.within) (path_join start last new c.loop-ahead.invariant.path leap.leapt.path);
+      whole = leap.leapt.whole;
+      spent = leap.leapt.spent;
+      working = leap.leapt.working;
     }
 
 pub loop-ahead-preserved : goal.loop-ahead-preserved
@@ -45,15 +45,15 @@ loop-ahead-preserved c =
     let start : Held = c.args.station.now.held in
     let last : Held = c.loop-ahead.station.held in
     let new : Held = c.in-Some.ahead.held in
-    let leap : Leaps c.args.n last new = c.in-Some.ensures in
+    let leap : Leaps (record { actions = c.args.actions.now; breakpoints = c.args.breakpoints.now }) c.args.n last new = c.in-Some.ensures in
     let sound = within_sound c.args.n start last c.loop-ahead.invariant.within (reached_sound c.args.past.now.inputs c.args.past.now.limit start c.requires.reached) in
     record {
       passed = passed_join free c.args.n start last new c.loop-ahead.invariant.passed (leap_passes free c.args.n last new (c.if-not-is_free.ensures refl) sound c.loop-ahead.invariant.whole c.loop-ahead.invariant.spent leap);
-      path = path_join start last new c.loop-ahead.invariant.path leap.path;
-      within = within_join c.args.n c.args.n (omega arith) start last new c.loop-ahead.invariant.within leap.within;
-      whole = leap.whole;
-      spent = leap.spent;
-      working = leap.working;
+      path = path_join start last new c.loop-ahead.invariant.path leap.leapt.path;
+      within = within_join c.args.n c.args.n (omega arith) start last new c.loop-ahead.invariant.within leap.leapt.within;
+      whole = leap.leapt.whole;
+      spent = leap.leapt.spent;
+      working = leap.leapt.working;
       same = c.keep.ensures ∙ c.loop-ahead.invariant.same;
       later = omega (arith, c.loop-ahead.invariant.later, leap.further.later);
     }
